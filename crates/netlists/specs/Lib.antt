@@ -1,0 +1,6 @@
+pub mod Net
+pub mod Refusals
+pub mod Lines
+pub mod Beside
+pub mod Reading
+pub mod Written

@@ -1,0 +1,186 @@
+// Reading a netlist's text into lent words.
+ghost use mathlib.Core.Path.{_≡_};
+ghost use mathlib.Core.Bool.{true};
+ghost use mathlib.Core.List.{List, [], _∷_, _++_, map};
+ghost use Prim.Native.Nat.{ℕ, _+_, _-_, _*_, _<_, _≤_};
+ghost use lib.ListN.{length, take, drop};
+ghost use Rattle.std.specs.Iters.{counting};
+ghost use Rattle.std.specs.Joined.{joined};
+ghost use Rattle.std.specs.Results.{isOk};
+ghost use Rattle.std.specs.Vec.{made};
+ghost use Rattle.netlists.specs.Net.{Bounded-counts, Cycles, layout, operand-words, room};
+ghost use Rattle.netlists.specs.Beside.{besides, holding, as-words};
+ghost use Rattle.netlists.specs.Reading as spec;
+ghost use Rattle.netlists.specs.Written.{Reads-back, Accepts-written};
+
+use crate::counts::Counts;
+use crate::fault::ReadFault;
+use crate::fault::Refusal;
+use crate::lines::FlopLine;
+use crate::lines::GateLine;
+use crate::lines::Header;
+use crate::lines::Lines;
+
+fn counts_fit(h: &Header) -> bool
+    ensures { λ r. ⌜ r ≡ spec.counts-fit (now (h .entry)) ⌝ }
+{
+    h.counts.inputs <= 256
+        && h.counts.flops <= 256
+        && h.counts.gates <= 8192
+        && h.counts.outputs >= 1
+        && h.counts.outputs <= 256
+        && h.last == h.counts.inputs + h.counts.flops + h.counts.gates
+}
+
+fn header_line(lines: &mut Lines, lent: usize) -> Result<Header, ReadFault>
+    ensures line { λ r. ⌜ besides (now (now (lines .exit) .rest)) r ≡ spec.header-line lent (now (now (lines .entry) .rest)) ⌝ }
+    ensures fits { λ r. ⌜ made r (λ h. Bounded-counts (h .counts) × (room (h .counts) ≤ lent)) ⌝ }
+{
+    let Some(header) = lines.header() else {
+        return Err(ReadFault { refusal: Refusal::MalformedHeader, line: 1 });
+    };
+    if !counts_fit(&header) {
+        return Err(ReadFault { refusal: Refusal::WrongCounts, line: 1 });
+    }
+    let counts = header.counts;
+    if lent < (2 * counts.gates + 2 * counts.flops + counts.outputs) as usize {
+        return Err(ReadFault { refusal: Refusal::FewWords, line: 1 });
+    }
+    Ok(header)
+}
+
+fn input_line(lines: &mut Lines, i: u32) -> Result<u32, ReadFault>
+    requires { ⌜ i < 256 ⌝ }
+    ensures { λ r. ⌜ besides (now (now (lines .exit) .rest)) r ≡ spec.input-line i (now (now (lines .entry) .rest)) ⌝ }
+{
+    let line = 2 + i;
+    let Some(literal) = lines.single() else {
+        return Err(ReadFault { refusal: Refusal::MalformedLine, line });
+    };
+    if literal != 2 * (1 + i) {
+        return Err(ReadFault { refusal: Refusal::WrongLiteral, line });
+    }
+    Ok(literal)
+}
+
+// Reads the inputs' lines, of which no word is kept.
+fn inputs(lines: &mut Lines, count: u32) -> Result<(), ReadFault>
+    requires { ⌜ count ≤ 256 ⌝ }
+    ensures { λ r. ⌜ besides (now (now (lines .exit) .rest)) r ≡ as-words (λ _. tt) (spec.each spec.input-line (counting 0 count) (now (now (lines .entry) .rest))) ⌝ }
+{
+    for i in 0..count {
+        input_line(lines, i)?;
+    }
+    Ok(())
+}
+
+fn third_fits(own: u32, third: Option<u32>) -> bool
+    ensures { λ r. ⌜ r ≡ spec.is-third own third ⌝ }
+{
+    match third {
+        None => true,
+        Some(n) => n <= 1 || n == own,
+    }
+}
+
+fn pin(third: Option<u32>) -> u32
+    ensures { λ r. ⌜ r ≡ spec.pin third ⌝ }
+{
+    match third {
+        None => 0,
+        Some(n) => {
+            if n <= 1 { n } else { 2 }
+        }
+    }
+}
+
+fn flop_line(lines: &mut Lines, counts: Counts, j: u32) -> Result<FlopLine, ReadFault>
+    requires { ⌜ Bounded-counts counts ⌝ ∗ ⌜ j < 256 ⌝ }
+    ensures { λ r. ⌜ besides (now (now (lines .exit) .rest)) r ≡ spec.flop-line counts j (now (now (lines .entry) .rest)) ⌝ }
+{
+    let line = 2 + counts.inputs + j;
+    let own = 2 * (1 + counts.inputs + j);
+    let Some(flop) = lines.flop() else {
+        return Err(ReadFault { refusal: Refusal::MalformedLine, line });
+    };
+    if flop.own != own {
+        return Err(ReadFault { refusal: Refusal::WrongLiteral, line });
+    }
+    if flop.next > 2 * (counts.inputs + counts.flops + counts.gates) + 1 {
+        return Err(ReadFault { refusal: Refusal::LargeLiteral, line });
+    }
+    if !third_fits(own, flop.third) {
+        return Err(ReadFault { refusal: Refusal::WrongPin, line });
+    }
+    Ok(flop)
+}
+
+// Reads the flops' lines, and writes their next literals into the first half of `words`, their pins into the second.
+fn flops(lines: &mut Lines, counts: Counts, words: &mut [u32]) -> Result<(), ReadFault>
+    requires { ⌜ Bounded-counts counts ⌝ ∗ ⌜ length (now words) ≡ 2 * counts .flops ⌝ }
+    ensures { λ r. ⌜ holding (now (words .exit)) (now (now (lines .exit) .rest)) r ≡ as-words (λ fs. spec.nexts-of fs ++ spec.pins-of fs) (spec.each (spec.flop-line counts) (counting 0 (counts .flops)) (now (now (lines .entry) .rest))) ⌝ }
+{
+    let count = counts.flops as usize;
+    for j in 0..count {
+        let flop = flop_line(lines, counts, j as u32)?;
+        words[j] = flop.next;
+        words[count + j] = pin(flop.third);
+    }
+    Ok(())
+}
+
+fn output_line(lines: &mut Lines, counts: Counts, j: u32) -> Result<u32, ReadFault>
+    requires { ⌜ Bounded-counts counts ⌝ ∗ ⌜ j < 256 ⌝ }
+    ensures { λ r. ⌜ besides (now (now (lines .exit) .rest)) r ≡ spec.output-line counts j (now (now (lines .entry) .rest)) ⌝ }
+{
+    let line = 2 + counts.inputs + counts.flops + j;
+    let Some(literal) = lines.single() else {
+        return Err(ReadFault { refusal: Refusal::MalformedLine, line });
+    };
+    if literal > 2 * (counts.inputs + counts.flops + counts.gates) + 1 {
+        return Err(ReadFault { refusal: Refusal::LargeLiteral, line });
+    }
+    Ok(literal)
+}
+
+// Reads the outputs' lines, and writes their literals into `words`.
+fn outputs(lines: &mut Lines, counts: Counts, words: &mut [u32]) -> Result<(), ReadFault>
+    requires { ⌜ Bounded-counts counts ⌝ ∗ ⌜ length (now words) ≡ counts .outputs ⌝ }
+    ensures { λ r. ⌜ holding (now (words .exit)) (now (now (lines .exit) .rest)) r ≡ spec.each (spec.output-line counts) (counting 0 (counts .outputs)) (now (now (lines .entry) .rest)) ⌝ }
+{
+    for j in 0..counts.outputs as usize {
+        words[j] = output_line(lines, counts, j as u32)?;
+    }
+    Ok(())
+}
+
+fn gate_line(lines: &mut Lines, counts: Counts, i: u32) -> Result<GateLine, ReadFault>
+    requires { ⌜ Bounded-counts counts ⌝ ∗ ⌜ i < 8192 ⌝ }
+    ensures { λ r. ⌜ besides (now (now (lines .exit) .rest)) r ≡ spec.gate-line counts i (now (now (lines .entry) .rest)) ⌝ }
+{
+    let line = 2 + counts.inputs + counts.flops + counts.outputs + i;
+    let own = 2 * (1 + counts.inputs + counts.flops + i);
+    let Some(gate) = lines.gate() else {
+        return Err(ReadFault { refusal: Refusal::MalformedLine, line });
+    };
+    if gate.own != own {
+        return Err(ReadFault { refusal: Refusal::WrongLiteral, line });
+    }
+    if gate.left >= own || gate.right >= own {
+        return Err(ReadFault { refusal: Refusal::LargeLiteral, line });
+    }
+    Ok(gate)
+}
+
+// Reads the gates' lines, and writes the two operands of each into `words`.
+fn gates(lines: &mut Lines, counts: Counts, words: &mut [u32]) -> Result<(), ReadFault>
+    requires { ⌜ Bounded-counts counts ⌝ ∗ ⌜ length (now words) ≡ 2 * counts .gates ⌝ }
+    ensures { λ r. ⌜ holding (now (words .exit)) (now (now (lines .exit) .rest)) r ≡ as-words (λ gs. operand-words (spec.operands-of gs)) (spec.each (spec.gate-line counts) (counting 0 (counts .gates)) (now (now (lines .entry) .rest))) ⌝ }
+{
+    for i in 0..counts.gates as usize {
+        let gate = gate_line(lines, counts, i as u32)?;
+        words[2 * i] = gate.left;
+        words[2 * i + 1] = gate.right;
+    }
+    Ok(())
+}
