@@ -1,2 +1,4 @@
 pub mod Fronts
 pub mod Sections
+pub mod Places
+pub mod Steps

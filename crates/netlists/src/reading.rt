@@ -184,3 +184,42 @@ fn gates(lines: &mut Lines, counts: Counts, words: &mut [u32]) -> Result<(), Rea
     }
     Ok(())
 }
+
+// Reads what follows line 1, and writes the circuit's words to the front of `words`.
+fn sections(lines: &mut Lines, counts: Counts, words: &mut [u32]) -> Result<(), ReadFault>
+    requires { ⌜ Bounded-counts counts ⌝ ∗ ⌜ room counts ≤ length (now words) ⌝ }
+    ensures front { λ r. ⌜ holding (take (room counts) (now (words .exit))) (now (now (lines .exit) .rest)) r ≡ as-words layout (spec.sections counts (now (now (lines .entry) .rest))) ⌝ }
+    ensures later { λ r. ⌜ (isOk r ≡ true → drop (room counts) (now (words .exit)) ≡ drop (room counts) (now (words .entry))) ⌝ }
+{
+    let gates_end = 2 * counts.gates as usize;
+    let flops_end = gates_end + 2 * counts.flops as usize;
+    let outputs_end = flops_end + counts.outputs as usize;
+    inputs(lines, counts.inputs)?;
+    flops(lines, counts, &mut words[gates_end..flops_end])?;
+    outputs(lines, counts, &mut words[flops_end..outputs_end])?;
+    gates(lines, counts, &mut words[0..gates_end])
+}
+
+// Writes the circuit's words to the front of `words`, or says why not.
+fn fill(text: &[u8], words: &mut [u32]) -> Result<Counts, ReadFault>
+    ensures told { λ r. ⌜ r ≡ spec.answered (spec.reading (length (now (words .entry))) (now (text .entry))) ⌝ }
+    ensures wrote { λ r. ⌜ (isOk r ≡ true → now (words .exit) ≡ spec.words-after (spec.reading (length (now (words .entry))) (now (text .entry))) (now (words .entry))) ⌝ }
+{
+    let mut lines = Lines::new(text);
+    let header = header_line(&mut lines, words.len())?;
+    sections(&mut lines, header.counts, words)?;
+    Ok(header.counts)
+}
+
+// Reads a netlist's text into the lent words: its operands, next literals, pins and outputs. Later words are left as they
+// were; a refused text leaves every word 0.
+pub fn read(text: &[u8], words: &mut [u32]) -> Result<Counts, ReadFault>
+    ensures answer { λ r. ⌜ r ≡ spec.answered (spec.reading (length (now (words .entry))) (now (text .entry))) ⌝ }
+    ensures written { λ _. ⌜ now (words .exit) ≡ spec.words-after (spec.reading (length (now (words .entry))) (now (text .entry))) (now (words .entry)) ⌝ }
+{
+    let answer = fill(text, words);
+    if answer.is_err() {
+        words.fill(0);
+    }
+    answer
+}
