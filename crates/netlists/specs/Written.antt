@@ -2,13 +2,21 @@
 use mathlib.Core.Path.{_≡_}
 use mathlib.Core.List.{List, [], _∷_, _++_}
 use mathlib.Core.Bool.{Bool, cond}
-use Prim.Native.Nat.{ℕ, zero, suc, _+_, _*_, _≤_}
+use mathlib.Core.Logic.{_↔_}
+use Prim.Native.Nat.{ℕ, zero, suc, _^_, _≤_, _<_}
 use lib.Chars.{codes}
 use Rattle.std.specs.Iters.{counting}
 use Rattle.std.specs.Joined.{joined}
+use Rattle.std.specs.Vec.{listOf}
 use Rattle.std.specs.Written.{decimal}
+use Rattle.std.specs.shelf.Lists.{All}
+use Rattle.std.specs.declared.option.Option.the-variants.{Some}
 use Rattle.std.specs.declared.result.Result.the-variants.{Ok}
 use Rattle.netlists.specs.declared.counts.Counts.{Counts}
+use Rattle.netlists.specs.declared.lines.Header.{Header}
+use Rattle.netlists.specs.declared.lines.FlopLine.{FlopLine}
+use Rattle.netlists.specs.declared.lines.GateLine.{GateLine}
+use Rattle.netlists.specs.Lines.{header, single, flop, gate}
 use Rattle.netlists.specs.Net.{Net, Bounded, last-net, input-literal, flop-literal, gate-literal, gate-at, next-at, pin-at, out-at, room}
 use Rattle.netlists.specs.Reading.{reading}
 
@@ -20,9 +28,21 @@ further (n ∷ ns) = 32 ∷ (decimal n ++ further ns)
 abbrev pub line : ℕ → List ℕ → List ℕ
 line n ns = decimal n ++ further ns
 
+-- t begins with the line of these numbers, each below 2 ^ 32, and u follows
+abbrev pub Starts-line : List ℕ → ℕ → List ℕ → List ℕ → Type 0
+Starts-line t n ns u = (t ≡ line n ns ++ u) × All (λ m. m < 2 ^ 32) (n ∷ ns)
+
+-- A line of each kind is read exactly where its numbers are written so; everything else is malformed.
+pub record Lines-exact : Type 0 where
+  pub headers : (t u : List ℕ) (h : Header) → (header t ≡ Some (h, u)) ↔ (tail : List ℕ) × ((t ≡ codes "aag" ++ (32 ∷ tail))
+      × Starts-line tail (h .last) (h .counts .inputs ∷ h .counts .flops ∷ h .counts .outputs ∷ h .counts .gates ∷ []) u)
+  pub singles : (t u : List ℕ) (n : ℕ) → (single t ≡ Some (n, u)) ↔ Starts-line t n [] u
+  pub flops : (t u : List ℕ) (f : FlopLine) → (flop t ≡ Some (f, u)) ↔ Starts-line t (f .own) (f .next ∷ listOf (f .third)) u
+  pub gates : (t u : List ℕ) (g : GateLine) → (gate t ≡ Some (g, u)) ↔ Starts-line t (g .own) (g .left ∷ g .right ∷ []) u
+
 -- line 1: aag M I L O A
 abbrev pub header-text : Counts → List ℕ
-header-text c = codes "aag" ++ further (last-net c ∷ c .inputs ∷ c .flops ∷ c .outputs ∷ c .gates ∷ [])
+header-text c = codes "aag" ++ (32 ∷ line (last-net c) (c .inputs ∷ c .flops ∷ c .outputs ∷ c .gates ∷ []))
 
 abbrev pub input-text : ℕ → List ℕ
 input-text i = line (input-literal i) []
