@@ -4,3 +4,5 @@ pub mod Places
 pub mod Steps
 pub mod Numerals
 pub mod LineForms
+pub mod Checks
+pub mod ReadBack

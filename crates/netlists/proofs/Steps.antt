@@ -20,7 +20,7 @@ use Rattle.std.specs.Results.{isErr}
 use Rattle.std.proofs.shelf.Lists.{append-assoc, take-append-drop}
 use Rattle.std.proofs.shelf.Tests.{both-ways}
 
-never-both : {X F : Type 0} (f : F) (x : X) → _≡_ {A = Result X F} (Err f) (Ok x) → ⊥
+pub never-both : {X F : Type 0} (f : F) (x : X) → _≡_ {A = Result X F} (Err f) (Ok x) → ⊥
 never-both f x e = let z : _≡_ {A = ℕ} 0 1 = cc in omega arith
 
 pub same-ok : {X F : Type 0} (x y : X) → _≡_ {A = Result X F} (Ok x) (Ok y) → x ≡ y
