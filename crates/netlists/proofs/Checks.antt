@@ -9,6 +9,7 @@ use lib.Dec.{eqb, ltb, leb}
 use Rattle.std.proofs.shelf.Tests.{cases-bool, and-parts, and-from, eq-eqb, le-leb, lt-leb, eqb-true, leb-true, or-cases, or-right, both-ways}
 use Rattle.std.specs.Options.{isSome}
 use Rattle.std.specs.Vec.{listOf}
+use Rattle.std.specs.shelf.Lists.{All}
 use Rattle.std.specs.declared.option.Option.{Option}
 use Rattle.std.specs.declared.option.Option.the-variants.{Some, None}
 use Rattle.std.specs.declared.result.Result.{Result}
@@ -33,17 +34,18 @@ none-due : {X : Type 0} (k : ℕ) (o : Option Refusal) (p q : X × List ℕ)
 none-due k None p q e = (refl, same-ok p q e)
 none-due k (Some r) p q e = absurd (never-both _ q e)
 
+all-passed : (cs : List Check) → first-due cs ≡ None → All (λ c. c .1 ≡ false) cs
+all-passed [] e = tt
+all-passed ((r, true) ∷ cs) e = absurd (none-some (Some r) r e refl)
+all-passed ((r, false) ∷ cs) e = (refl, all-passed cs e)
+
 pub judged-parts : {X : Type 0} (k : ℕ) (r : Refusal) (o : Option (X × List ℕ)) (checks : X → List Check) (p : X × List ℕ)
-    → judged k r o checks ≡ Ok p → (o ≡ Some p) × (first-due (checks (p .0)) ≡ None)
+    → judged k r o checks ≡ Ok p → (o ≡ Some p) × All (λ c. c .1 ≡ false) (checks (p .0))
 judged-parts k r None checks p e = absurd (never-both _ p e)
 judged-parts {X = X} k r (Some q) checks p e =
     let n = none-due k (first-due (checks (q .0))) q p e in
-    (ap (λ (x : X × List ℕ). Some x) (n .1), sym (ap (λ (x : X × List ℕ). first-due (checks (x .0))) (n .1)) ∙ n .0)
-
--- none is due: the first is not, and none of the rest
-pub not-due : (r : Refusal) (due : Bool) (cs : List Check) → first-due ((r, due) ∷ cs) ≡ None → (due ≡ false) × (first-due cs ≡ None)
-not-due r true cs e = absurd (none-some (Some r) r e refl)
-not-due r false cs e = (refl, e)
+    (ap (λ (x : X × List ℕ). Some x) (n .1),
+    all-passed (checks (p .0)) (sym (ap (λ (x : X × List ℕ). first-due (checks (x .0))) (n .1)) ∙ n .0))
 
 pub counts-fit-from : (h : Header) → Bounded-counts (h .counts) → h .last ≡ last-net (h .counts) → counts-fit h ≡ true
 counts-fit-from h b e =

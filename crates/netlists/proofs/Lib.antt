@@ -6,3 +6,4 @@ pub mod Numerals
 pub mod LineForms
 pub mod Checks
 pub mod ReadBack
+pub mod Accepted
