@@ -7,3 +7,5 @@ pub mod LineForms
 pub mod Checks
 pub mod ReadBack
 pub mod Accepted
+pub mod CycleValues
+pub mod LawsOfReading

@@ -17,7 +17,7 @@ use Rattle.netlists.specs.declared.lines.Header.{Header}
 use Rattle.netlists.specs.declared.lines.FlopLine.{FlopLine}
 use Rattle.netlists.specs.declared.lines.GateLine.{GateLine}
 use Rattle.netlists.specs.Lines.{header, single, flop, gate}
-use Rattle.netlists.specs.Net.{Net, Bounded, last-net, input-literal, flop-literal, gate-literal, gate-at, next-at, pin-at, out-at, room}
+use Rattle.netlists.specs.Net.{Net, Bounded, Cycles, last-net, input-literal, flop-literal, gate-literal, gate-at, next-at, pin-at, out-at, room}
 use Rattle.netlists.specs.Reading.{reading}
 
 -- numbers, each after a space, and byte 10; a line of numbers
@@ -84,3 +84,11 @@ Reads-back lent t = (net : Net) → Bounded net → Begins-with net t → room (
 -- each text that is accepted begins with a written form of the circuit that it is read as, a bounded one for which the words suffice
 abbrev pub Accepts-written : ℕ → List ℕ → Type 0
 Accepts-written lent t = (net : Net) → reading lent t ≡ Ok net → Bounded net × Begins-with net t × (room (net .counts) ≤ lent)
+
+-- the laws of reading
+pub record Laws (lent : ℕ) (t : List ℕ) : Type 0 where
+  pub lines-exact : Lines-exact
+  pub reads-back : Reads-back lent t
+  pub accepts-written : Accepts-written lent t
+  -- what was read is a circuit: in a cycle each net has its value, and there are as many outputs and next bits as counted
+  pub cycles : (net : Net) → reading lent t ≡ Ok net → Cycles net

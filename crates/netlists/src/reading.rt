@@ -8,10 +8,10 @@ ghost use Rattle.std.specs.Iters.{counting};
 ghost use Rattle.std.specs.Joined.{joined};
 ghost use Rattle.std.specs.Results.{isOk};
 ghost use Rattle.std.specs.Vec.{made};
-ghost use Rattle.netlists.specs.Net.{Bounded-counts, Cycles, layout, operand-words, room};
+ghost use Rattle.netlists.specs.Net.{Bounded-counts, layout, operand-words, room};
 ghost use Rattle.netlists.specs.Beside.{besides, holding, as-words};
 ghost use Rattle.netlists.specs.Reading as spec;
-ghost use Rattle.netlists.specs.Written.{Reads-back, Accepts-written};
+ghost use Rattle.netlists.specs.Written.{Laws};
 
 use crate::counts::Counts;
 use crate::fault::ReadFault;
@@ -216,6 +216,7 @@ fn fill(text: &[u8], words: &mut [u32]) -> Result<Counts, ReadFault>
 pub fn read(text: &[u8], words: &mut [u32]) -> Result<Counts, ReadFault>
     ensures answer { λ r. ⌜ r ≡ spec.answered (spec.reading (length (now (words .entry))) (now (text .entry))) ⌝ }
     ensures written { λ _. ⌜ now (words .exit) ≡ spec.words-after (spec.reading (length (now (words .entry))) (now (text .entry))) (now (words .entry)) ⌝ }
+    ensures laws { λ _. ⌜ Laws (length (now (words .entry))) (now (text .entry)) ⌝ }
 {
     let answer = fill(text, words);
     if answer.is_err() {

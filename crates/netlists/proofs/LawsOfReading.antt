@@ -1,0 +1,13 @@
+-- The laws of reading, together.
+use mathlib.Core.List.{List}
+use Prim.Native.Nat.{ℕ}
+use Rattle.netlists.specs.Written.{Laws}
+use Rattle.netlists.proofs.Accepted.{accepts-written}
+use Rattle.netlists.proofs.CycleValues.{cycles}
+use Rattle.netlists.proofs.LineForms.{lines-exact}
+use Rattle.netlists.proofs.ReadBack.{reads-back}
+
+pub laws : (lent : ℕ) (t : List ℕ) → Laws lent t
+laws lent t = record
+  { lines-exact = lines-exact; reads-back = reads-back lent t; accepts-written = accepts-written lent t
+  ; cycles = λ net e. cycles net (accepts-written lent t net e .0) }
