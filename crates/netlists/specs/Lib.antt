@@ -4,3 +4,4 @@ pub mod Lines
 pub mod Beside
 pub mod Reading
 pub mod Written
+pub mod Told

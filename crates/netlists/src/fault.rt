@@ -2,7 +2,7 @@ ghost use mathlib.Core.Path.{_≡_};
 ghost use Rattle.netlists.specs.Refusals as spec;
 
 // Why a netlist's text is refused.
-#[derive(Clone, Copy, PartialEq, Eq, Debug)]
+#[derive(Clone, Copy)]
 pub enum Refusal {
     // line 1 is malformed
     MalformedHeader,
@@ -21,7 +21,7 @@ pub enum Refusal {
 }
 
 // A refusal, and the line that brought it on; lines count from 1.
-#[derive(Clone, Copy, PartialEq, Eq, Debug)]
+#[derive(Clone, Copy)]
 pub struct ReadFault {
     pub refusal: Refusal,
     pub line: u32,
