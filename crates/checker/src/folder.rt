@@ -1,0 +1,38 @@
+// The files of a folder.
+use crate::report::MOST_BYTES;
+use std::env;
+use std::error::AnyError;
+use std::fs::File;
+use std::io;
+use std::io::ErrorKind;
+use std::io::Read;
+use std::path::Path;
+
+// The folder that the one argument names; without one, the current directory.
+pub fn folder_named(rt: &LibcRuntime) -> Result<String, AnyError> {
+    let mut args = env::args(rt)?;
+    let _program = args.next();
+    let folder = args.next();
+    if args.next().is_some() {
+        return Err("usage: checker [FOLDER]".into());
+    }
+    match folder {
+        Some(name) => Ok(name),
+        None => Ok(String::from_str(rt.alloc(), ".")?),
+    }
+}
+
+// The bytes of a file, or the first MOST_BYTES + 1 where there are more; a missing file is empty.
+pub fn read_file(rt: &LibcRuntime, folder: Path<'_>, name: &str) -> io::Result<Vec<u8>> {
+    let heap = rt.alloc();
+    let path = folder.join(heap, name)?;
+    let mut bytes = Vec::new(heap);
+    match File::open(rt, path.as_path()) {
+        Ok(file) => {
+            file.take(MOST_BYTES as u64 + 1).read_to_end(&mut bytes)?;
+            Ok(bytes)
+        }
+        Err(e) if e.kind() == ErrorKind::NotFound => Ok(bytes),
+        Err(e) => Err(e),
+    }
+}

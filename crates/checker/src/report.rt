@@ -1,0 +1,101 @@
+// What the checker reports of the two netlists of a folder.
+ghost use mathlib.Core.Path.{_≡_};
+ghost use lib.ListN.{length};
+ghost use Rattle.std.specs.Vec.{made};
+ghost use Rattle.std.specs.declared.option.Option.the-variants.{Some};
+ghost use Rattle.netlists.specs.Reading.{reading};
+ghost use Rattle.checker.specs.Report as spec;
+
+use netlists::counts::Counts;
+use netlists::counts::CountsDisplay;
+use netlists::fault::ReadFault;
+use netlists::reading::read;
+use std::alloc::AllocError;
+use std::alloc::Global;
+use std::fmt;
+
+// The most bytes that a file may have.
+pub const MOST_BYTES: usize = 65_536;
+
+// The words lent for a netlist: two for each of 8,192 gates and of 256 flops, one for each of 256 outputs.
+const LENT_WORDS: usize = 17_152;
+
+#[derive(Clone, Copy)]
+pub enum Netlist {
+    Original,
+    Gated,
+}
+
+#[derive(Clone, Copy)]
+pub enum Report {
+    // a file has more than MOST_BYTES bytes
+    TooLong,
+    // a netlist's text is refused
+    Refused(Netlist, ReadFault),
+    // both netlists are read; the counts of the original, and of the gated one
+    Read(Counts, Counts),
+}
+
+impl Report {
+    // Reads the two netlists, each into its lent words.
+    fn of_texts(original: &[u8], gated: &[u8], original_words: &mut [u32], gated_words: &mut [u32]) -> Report
+        ensures report { λ r. ⌜ r ≡ spec.of-readings (reading (length (now («original_words» .entry))) (now (original .entry))) (reading (length (now («gated_words» .entry))) (now (gated .entry))) ⌝ }
+    {
+        let a = match read(original, original_words) {
+            Ok(counts) => counts,
+            Err(fault) => return Report::Refused(Netlist::Original, fault),
+        };
+        match read(gated, gated_words) {
+            Ok(b) => Report::Read(a, b),
+            Err(fault) => Report::Refused(Netlist::Gated, fault),
+        }
+    }
+
+    // Reads the two netlists of a folder.
+    pub fn of(heap: Global, original: &[u8], gated: &[u8]) -> Result<Report, AllocError>
+        ensures { λ r. ⌜ made r (λ x. x ≡ spec.report (now (original .entry)) (now (gated .entry))) ⌝ }
+    {
+        if original.len() > MOST_BYTES || gated.len() > MOST_BYTES {
+            return Ok(Report::TooLong);
+        }
+        let mut original_words = vec![in heap; 0u32; LENT_WORDS]?;
+        let mut gated_words = vec![in heap; 0u32; LENT_WORDS]?;
+        Ok(Report::of_texts(original, gated, &mut original_words, &mut gated_words))
+    }
+
+    pub fn both_read(&self) -> bool
+        ensures { λ r. ⌜ r ≡ spec.both-read (now (self .entry)) ⌝ }
+    {
+        match self {
+            Report::Read(_, _) => true,
+            _ => false,
+        }
+    }
+}
+
+pub impl fmt::Display for Netlist as NetlistDisplay {
+    ghost shown = { λ n. Some (spec.letter n) };
+
+    fn fmt<W: fmt::Write>(&self, f: &mut fmt::Formatter<W>) -> fmt::Result {
+        match self {
+            Netlist::Original => write!(f, "a"),
+            Netlist::Gated => write!(f, "b"),
+        }
+    }
+}
+
+pub impl fmt::Display for Report as ReportDisplay {
+    ghost shown = { λ r. Some (spec.line r) };
+
+    fn fmt<W: fmt::Write>(&self, f: &mut fmt::Formatter<W>) -> fmt::Result {
+        match *self {
+            Report::TooLong => write!(f, "too long"),
+            Report::Refused(netlist, fault) => {
+                let number = fault.refusal.number();
+                let line = fault.line;
+                write!(f, "refused {number} netlist {netlist} line {line}")
+            }
+            Report::Read(a, b) => write!(f, "read netlist a with {a} and netlist b with {b}"),
+        }
+    }
+}
