@@ -140,7 +140,7 @@ bounded-from c fs os gs b lf lo lg f o g = record
   ; pins-in = all-map (λ p. p ≤ 2) (λ x. pin (x .third)) fs (all-from-getD (λ x. pin (x .third) ≤ 2) fs no-flop (λ k l. pin-in (getD fs k no-flop .third)))
   ; outs-in = all-from-getD (λ x. x ≤ top c) os 0 (λ k l. o k k (omega arith) (omega arith)) }
 
-header-accepted : (lent : ℕ) (t u : List ℕ) (h : Header) → header-line lent t ≡ Ok (h, u)
+pub header-accepted : (lent : ℕ) (t u : List ℕ) (h : Header) → header-line lent t ≡ Ok (h, u)
     → Bounded-counts (h .counts) × (room (h .counts) ≤ lent) × (t ≡ header-text (h .counts) ++ u)
 header-accepted lent t u h e =
     let p = judged-parts _ _ (header t) _ (h, u) e in

@@ -8,4 +8,5 @@ pub mod Checks
 pub mod ReadBack
 pub mod Accepted
 pub mod CycleValues
+pub mod Refused
 pub mod LawsOfReading

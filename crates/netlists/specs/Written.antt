@@ -11,8 +11,10 @@ use Rattle.std.specs.Vec.{listOf}
 use Rattle.std.specs.Written.{decimal}
 use Rattle.std.specs.shelf.Lists.{All}
 use Rattle.std.specs.declared.option.Option.the-variants.{Some}
-use Rattle.std.specs.declared.result.Result.the-variants.{Ok}
+use Rattle.std.specs.declared.result.Result.the-variants.{Ok, Err}
 use Rattle.netlists.specs.declared.counts.Counts.{Counts}
+use Rattle.netlists.specs.declared.fault.Refusal.the-variants.{MalformedHeader, WrongCounts, MalformedLine, WrongLiteral, LargeLiteral, WrongPin, FewWords}
+use Rattle.netlists.specs.declared.fault.ReadFault.{ReadFault}
 use Rattle.netlists.specs.declared.lines.Header.{Header}
 use Rattle.netlists.specs.declared.lines.FlopLine.{FlopLine}
 use Rattle.netlists.specs.declared.lines.GateLine.{GateLine}
@@ -85,10 +87,29 @@ Reads-back lent t = (net : Net) → Bounded net → Begins-with net t → room (
 abbrev pub Accepts-written : ℕ → List ℕ → Type 0
 Accepts-written lent t = (net : Net) → reading lent t ≡ Ok net → Bounded net × Begins-with net t × (room (net .counts) ≤ lent)
 
+-- where a refusal can come from: line 1 brings on its own, each later line up to the last possible one the others,
+-- and too few words are told only to a lender of fewer than the largest circuit takes
+abbrev pub most-words : ℕ
+most-words = 17152
+
+abbrev pub last-line : ℕ
+last-line = 8961
+
+abbrev pub Placed : ℕ → ReadFault → Type 0
+Placed lent f = elim (f .refusal)
+    [ MalformedHeader ↦ f .line ≡ 1
+    | WrongCounts ↦ f .line ≡ 1
+    | FewWords ↦ (f .line ≡ 1) × (lent < most-words)
+    | MalformedLine ↦ (2 ≤ f .line) × (f .line ≤ last-line)
+    | WrongLiteral ↦ (2 ≤ f .line) × (f .line ≤ last-line)
+    | LargeLiteral ↦ (2 ≤ f .line) × (f .line ≤ last-line)
+    | WrongPin ↦ (2 ≤ f .line) × (f .line ≤ last-line) ]
+
 -- the laws of reading
 pub record Laws (lent : ℕ) (t : List ℕ) : Type 0 where
   pub lines-exact : Lines-exact
   pub reads-back : Reads-back lent t
   pub accepts-written : Accepts-written lent t
+  pub placed : (f : ReadFault) → reading lent t ≡ Err f → Placed lent f
   -- what was read is a circuit: in a cycle each net has its value, and there are as many outputs and next bits as counted
   pub cycles : (net : Net) → reading lent t ≡ Ok net → Cycles net
