@@ -3,7 +3,7 @@ ghost use mathlib.Core.Path.{_≡_};
 ghost use lib.ListN.{length};
 ghost use Rattle.std.specs.Vec.{made};
 ghost use Rattle.std.specs.declared.option.Option.the-variants.{Some};
-ghost use Rattle.netlists.specs.Reading.{reading};
+ghost use Rattle.netlists.specs.Reading.{reading, words-after};
 ghost use Rattle.checker.specs.Report as spec;
 
 use netlists::counts::Counts;
@@ -40,6 +40,8 @@ impl Report {
     // Reads the two netlists, each into its lent words.
     fn of_texts(original: &[u8], gated: &[u8], original_words: &mut [u32], gated_words: &mut [u32]) -> Report
         ensures report { λ r. ⌜ r ≡ spec.of-readings (reading (length (now («original_words» .entry))) (now (original .entry))) (reading (length (now («gated_words» .entry))) (now (gated .entry))) ⌝ }
+        ensures original_after { λ _. ⌜ now («original_words» .exit) ≡ words-after (reading (length (now («original_words» .entry))) (now (original .entry))) (now («original_words» .entry)) ⌝ }
+        ensures gated_after { λ _. ⌜ now («gated_words» .exit) ≡ spec.gated-after (reading (length (now («original_words» .entry))) (now (original .entry))) (reading (length (now («gated_words» .entry))) (now (gated .entry))) (now («gated_words» .entry)) ⌝ }
     {
         let a = match read(original, original_words) {
             Ok(counts) => counts,
@@ -53,7 +55,8 @@ impl Report {
 
     // Reads the two netlists of a folder.
     pub fn of(heap: Global, original: &[u8], gated: &[u8]) -> Result<Report, AllocError>
-        ensures { λ r. ⌜ made r (λ x. x ≡ spec.report (now (original .entry)) (now (gated .entry))) ⌝ }
+        ensures report { λ r. ⌜ made r (λ x. x ≡ spec.report (now (original .entry)) (now (gated .entry))) ⌝ }
+        ensures enough { λ _. ⌜ spec.Words-suffice ⌝ }
     {
         if original.len() > MOST_BYTES || gated.len() > MOST_BYTES {
             return Ok(Report::TooLong);
