@@ -22,17 +22,20 @@ pub fn folder_named(rt: &LibcRuntime) -> Result<String, AnyError> {
     }
 }
 
-// The bytes of a file, or the first MOST_BYTES + 1 where there are more; a missing file is empty.
-pub fn read_file(rt: &LibcRuntime, folder: Path<'_>, name: &str) -> io::Result<Vec<u8>> {
-    let heap = rt.alloc();
-    let path = folder.join(heap, name)?;
-    let mut bytes = Vec::new(heap);
-    match File::open(rt, path.as_path()) {
-        Ok(file) => {
-            file.take(MOST_BYTES as u64 + 1).read_to_end(&mut bytes)?;
-            Ok(bytes)
-        }
-        Err(e) if e.kind() == ErrorKind::NotFound => Ok(bytes),
-        Err(e) => Err(e),
+// The bytes of a file, or the first MOST_BYTES + 1 where there are more.
+fn first_bytes(rt: &LibcRuntime, path: Path<'_>) -> io::Result<Vec<u8>> {
+    let mut bytes = Vec::new(rt.alloc());
+    let file = File::open(rt, path)?;
+    file.take(MOST_BYTES as u64 + 1).read_to_end(&mut bytes)?;
+    Ok(bytes)
+}
+
+// The same of a file of the folder, which is empty where it is missing.
+pub fn read_file(rt: &LibcRuntime, folder: Path<'_>, name: &str) -> Result<Vec<u8>, AnyError> {
+    let path = folder.join(rt.alloc(), name)?;
+    match first_bytes(rt, path.as_path()) {
+        Ok(bytes) => Ok(bytes),
+        Err(e) if e.kind() == ErrorKind::NotFound => Ok(Vec::new(rt.alloc())),
+        Err(e) => Err(format!(rt.alloc(), "cannot read {name}: {e}")?.into()),
     }
 }

@@ -10,22 +10,23 @@ use std::error::AnyError;
 use std::path::Path;
 
 fn run(rt: &LibcRuntime) -> Result<Report, AnyError> {
-    let heap = rt.alloc();
     let name = folder_named(rt)?;
     let folder = Path::new(name.as_str());
     let original = read_file(rt, folder, "orig.aag")?;
     let gated = read_file(rt, folder, "gated.aag")?;
-    let report = Report::of(heap, original.as_slice(), gated.as_slice())?;
+    let report = Report::of(rt.alloc(), original.as_slice(), gated.as_slice())?;
     rt.println(report)?;
     Ok(report)
 }
 
-// Status 0 where both netlists are read, else 1.
+// Status 0 where both netlists are read, else 1; what kept the checker from a report goes to standard error.
 fn main(rt: LibcRuntime) -> Result<(), AnyError> {
-    let report = rt.report(run(&rt))?;
-    if report.both_read() {
-        Ok(())
-    } else {
-        Err("refused".into())
+    match run(&rt) {
+        Ok(report) if report.both_read() => Ok(()),
+        Ok(_) => Err("refused".into()),
+        Err(e) => {
+            eprintln!(rt, "checker: {e}")?;
+            Err(e)
+        }
     }
 }
