@@ -131,10 +131,12 @@ take-pair xs k a b h =
     ∙ append-assoc (take (2 * k) xs) (a ∷ []) (b ∷ [])
 
 -- a next literal and a pin more
-pub flop-words : (ws : List ℕ) (n k : ℕ) (f : FlopLine) (p : ℕ) → k < n → length ws ≡ 2 * n → p ≡ pin (f .third)
-    → _≡_ {A = List ℕ × List ℕ} (take (k + 1) (set (set ws k (f .next)) (n + k) p), take (k + 1) (drop n (set (set ws k (f .next)) (n + k) p)))
+pub flop-words : (ws : List ℕ) (n k : ℕ) (f : FlopLine) → k < n → length ws ≡ 2 * n
+    → _≡_ {A = List ℕ × List ℕ}
+        (take (k + 1) (set (set ws k (f .next)) (n + k) (pin (f .third))), take (k + 1) (drop n (set (set ws k (f .next)) (n + k) (pin (f .third)))))
         (with-flop (take k ws, take k (drop n ws)) f)
-flop-words ws n k f p h l e =
+flop-words ws n k f h l =
+    let p = pin (f .third) in
     let a : take (k + 1) (set (set ws k (f .next)) (n + k) p) ≡ take k ws ++ (f .next ∷ [])
         = take-set-le (k + 1) (set ws k (f .next)) (n + k) p (omega arith) ∙ take-more-set ws k (f .next) (omega arith) in
     let d : drop n (set (set ws k (f .next)) (n + k) p) ≡ set (drop n ws) k p

@@ -1,7 +1,6 @@
 -- An accepted reading comes from accepted parts.
 use mathlib.Core.Path.{_≡_, refl, sym, ap, _∙_}
 use mathlib.Core.List.{List, [], _∷_, _++_}
-use mathlib.Core.Bool.{true, false}
 use Prim.Native.Nat.{ℕ, _+_, _-_, _*_, _≤_, _<_}
 use native.Mathlib.Omega.{arith}
 use lib.ListN.{length, take, drop, replicate}
@@ -16,9 +15,7 @@ use Rattle.netlists.specs.declared.lines.GateLine.{GateLine}
 use Rattle.netlists.specs.Beside.{as-words, holding}
 use Rattle.netlists.specs.Net.{Net, layout, operand-words, room}
 use Rattle.netlists.specs.Reading.{each, onward, input-line, flop-line, output-line, gate-line, header-line, nexts-of, pins-of, operands-of, net-of, sections, reading, answered, words-after}
-use Rattle.std.specs.Results.{isErr}
 use Rattle.std.proofs.shelf.Lists.{append-assoc, take-append-drop}
-use Rattle.std.proofs.shelf.Tests.{both-ways}
 
 pub never-both : {X F : Type 0} (f : F) (x : X) → _≡_ {A = Result X F} (Err f) (Ok x) → ⊥
 never-both f x e = let z : _≡_ {A = ℕ} 0 1 = cc in omega arith
@@ -130,9 +127,19 @@ accepted-words lent t t₁ t₂ ws ws′ h a b d =
             ∙ ap (λ (y : List ℕ). layout n ++ y) d ∙ ap (λ (c : Counts). layout n ++ drop (room c) ws) (sym k) in
     (ap (λ (c : Counts). Ok c) (sym k) ∙ sym (ap answered r), w ∙ sym (ap (λ q. words-after q ws) r))
 
--- a refused one: zeros
-pub refused-words : (r : Result Counts ReadFault) (q : Result Net ReadFault) (ws : List ℕ) → true ≡ isErr r → r ≡ answered q
-    → replicate (length ws) 0 ≡ words-after q ws
-refused-words r (Err f) ws n e = refl
-refused-words r (Ok net) ws n e =
-    let z : true ≡ false = n ∙ ap isErr e in absurd (both-ways true z refl)
+-- a refused one, by line 1 or a later line: zeros
+abbrev pub Refused : ReadFault → Result Net ReadFault → List ℕ → Type 0
+Refused f q ws = (Err f ≡ answered q) × (replicate (length ws) 0 ≡ words-after q ws)
+
+refused-from : (f : ReadFault) (q : Result Net ReadFault) (ws : List ℕ) → q ≡ Err f → Refused f q ws
+refused-from f q ws e = (sym (ap answered e), sym (ap (λ r. words-after r ws) e))
+
+pub header-refused : (lent : ℕ) (t ws : List ℕ) (f : ReadFault) → Err f ≡ header-line lent t → Refused f (reading lent t) ws
+header-refused lent t ws f a = refused-from f (reading lent t) ws (rw (← a) refl)
+
+pub later-refused : (lent : ℕ) (t t₁ ws : List ℕ) (h : Header) (f : ReadFault) → Ok (h, t₁) ≡ header-line lent t
+    → Err f ≡ as-words layout (sections (h .counts) t₁) → Refused f (reading lent t) ws
+later-refused lent t t₁ ws h f a b =
+    let s = words-err layout (sections (h .counts) t₁) f b in
+    let r : reading lent t ≡ Err f = rw (← a, s) refl in
+    refused-from f (reading lent t) ws r

@@ -3,11 +3,12 @@ ghost use mathlib.Core.Path.{_≡_};
 ghost use mathlib.Core.Bool.{true};
 ghost use mathlib.Core.List.{List, [], _∷_, _++_, map};
 ghost use Prim.Native.Nat.{ℕ, _+_, _-_, _*_, _<_, _≤_};
-ghost use lib.ListN.{length, take, drop};
+ghost use lib.ListN.{length, take, drop, set, replicate};
 ghost use Rattle.std.specs.Iters.{counting};
 ghost use Rattle.std.specs.Joined.{joined};
 ghost use Rattle.std.specs.Results.{isOk};
 ghost use Rattle.std.specs.Vec.{made};
+ghost use Rattle.std.specs.declared.result.Result.the-variants.{Ok, Err};
 ghost use Rattle.netlists.specs.Net.{Bounded-counts, layout, operand-words, room};
 ghost use Rattle.netlists.specs.Beside.{besides, holding, as-words};
 ghost use Rattle.netlists.specs.Reading as spec;
@@ -115,6 +116,14 @@ fn flop_line(lines: &mut Lines, counts: Counts, j: u32) -> Result<FlopLine, Read
     Ok(flop)
 }
 
+fn write_flop(words: &mut [u32], count: usize, j: usize, flop: FlopLine)
+    requires { ⌜ j < count ⌝ ∗ ⌜ length (now words) ≡ 2 * count ⌝ }
+    ensures { λ _. ⌜ now (words .exit) ≡ set (set (now (words .entry)) j (flop .next)) (count + j) (spec.pin (flop .third)) ⌝ }
+{
+    words[j] = flop.next;
+    words[count + j] = pin(flop.third);
+}
+
 // Reads the flops' lines, and writes their next literals into the first half of `words`, their pins into the second.
 fn flops(lines: &mut Lines, counts: Counts, words: &mut [u32]) -> Result<(), ReadFault>
     requires { ⌜ Bounded-counts counts ⌝ ∗ ⌜ length (now words) ≡ 2 * counts .flops ⌝ }
@@ -123,8 +132,7 @@ fn flops(lines: &mut Lines, counts: Counts, words: &mut [u32]) -> Result<(), Rea
     let count = counts.flops as usize;
     for j in 0..count {
         let flop = flop_line(lines, counts, j as u32)?;
-        words[j] = flop.next;
-        words[count + j] = pin(flop.third);
+        write_flop(words, count, j, flop);
     }
     Ok(())
 }
@@ -172,6 +180,14 @@ fn gate_line(lines: &mut Lines, counts: Counts, i: u32) -> Result<GateLine, Read
     Ok(gate)
 }
 
+fn write_gate(words: &mut [u32], i: usize, gate: GateLine)
+    requires { ⌜ 2 * i + 1 < length (now words) ⌝ }
+    ensures { λ _. ⌜ now (words .exit) ≡ set (set (now (words .entry)) (2 * i) (gate .left)) (2 * i + 1) (gate .right) ⌝ }
+{
+    words[2 * i] = gate.left;
+    words[2 * i + 1] = gate.right;
+}
+
 // Reads the gates' lines, and writes the two operands of each into `words`.
 fn gates(lines: &mut Lines, counts: Counts, words: &mut [u32]) -> Result<(), ReadFault>
     requires { ⌜ Bounded-counts counts ⌝ ∗ ⌜ length (now words) ≡ 2 * counts .gates ⌝ }
@@ -179,8 +195,7 @@ fn gates(lines: &mut Lines, counts: Counts, words: &mut [u32]) -> Result<(), Rea
 {
     for i in 0..counts.gates as usize {
         let gate = gate_line(lines, counts, i as u32)?;
-        words[2 * i] = gate.left;
-        words[2 * i + 1] = gate.right;
+        write_gate(words, i, gate);
     }
     Ok(())
 }
@@ -202,8 +217,9 @@ fn sections(lines: &mut Lines, counts: Counts, words: &mut [u32]) -> Result<(), 
 
 // Writes the circuit's words to the front of `words`, or says why not.
 fn fill(text: &[u8], words: &mut [u32]) -> Result<Counts, ReadFault>
-    ensures told { λ r. ⌜ r ≡ spec.answered (spec.reading (length (now (words .entry))) (now (text .entry))) ⌝ }
-    ensures wrote { λ r. ⌜ (isOk r ≡ true → now (words .exit) ≡ spec.words-after (spec.reading (length (now (words .entry))) (now (text .entry))) (now (words .entry))) ⌝ }
+    ensures answer { λ r. ⌜ r ≡ spec.answered (spec.reading (length (now (words .entry))) (now (text .entry))) ⌝ }
+    ensures written { λ r. ⌜ elim r [ Ok c ↦ now (words .exit) | Err f ↦ replicate (length (now (words .entry))) 0 ] ≡ spec.words-after (spec.reading (length (now (words .entry))) (now (text .entry))) (now (words .entry)) ⌝ }
+    ensures laws { λ _. ⌜ Laws (length (now (words .entry))) (now (text .entry)) ⌝ }
 {
     let mut lines = Lines::new(text);
     let header = header_line(&mut lines, words.len())?;
@@ -218,9 +234,11 @@ pub fn read(text: &[u8], words: &mut [u32]) -> Result<Counts, ReadFault>
     ensures written { λ _. ⌜ now (words .exit) ≡ spec.words-after (spec.reading (length (now (words .entry))) (now (text .entry))) (now (words .entry)) ⌝ }
     ensures laws { λ _. ⌜ Laws (length (now (words .entry))) (now (text .entry)) ⌝ }
 {
-    let answer = fill(text, words);
-    if answer.is_err() {
-        words.fill(0);
+    match fill(text, words) {
+        Ok(counts) => Ok(counts),
+        Err(fault) => {
+            words.fill(0);
+            Err(fault)
+        }
     }
-    answer
 }

@@ -1,5 +1,7 @@
 use mathlib.Core.Path.{ap, _∙_}
-use mathlib.Core.List.{[], _++_}
+use mathlib.Core.List.{List, []}
+use Prim.Native.Nat.{ℕ, _+_}
+use lib.ListN.{take, drop}
 use native.Mathlib.Omega.{arith}
 use Rattle.std.specs.declared.result.Result.the-variants.{Ok}
 use Rattle.std.proofs.shelf.Results.{err-from-errBy}
@@ -18,7 +20,8 @@ pub loop-j-again : need.loop-j-again
 loop-j-again c =
     ap (as-words side-by-side) (each-more (flop-line (c .args .counts)) with-flop (c .args .counts .flops) (c .loop-j .j) _ _ _ _ _ (omega arith)
         (c .in-Continue-flop .ensures tt)
-        (flop-words (c .loop-j .words) (c .args .counts .flops) (c .loop-j .j) (c .in-Continue-flop .flop) (c .pin .result) (omega arith) (omega arith) (c .pin .ensures)))
+        (ap (λ (ws : List ℕ). (take (c .loop-j .j + 1) ws, take (c .loop-j .j + 1) (drop (c .args .counts .flops) ws))) (c .write-flop .ensures)
+            ∙ flop-words (c .loop-j .words) (c .args .counts .flops) (c .loop-j .j) (c .in-Continue-flop .flop) (omega arith) (omega arith)))
     ∙ c .loop-j .inv
 
 pub returns-in-Break-flop : need.returns-in-Break-flop

@@ -2,7 +2,8 @@ use borrow.Author.Needs.{needs}
 use mathlib.Core.Path.{ap, sym, _∙_}
 use native.Mathlib.Omega.{arith}
 use mathlib.Core.List.{[]}
-use Prim.Native.Nat.{_*_}
+use Prim.Native.Nat.{_+_, _*_}
+use lib.ListN.{take}
 use Rattle.std.proofs.shelf.Lists.{take-all}
 use Rattle.std.specs.declared.result.Result.the-variants.{Ok}
 use Rattle.std.proofs.shelf.Results.{err-from-errBy}
@@ -19,7 +20,7 @@ loop-i-holds c =
 pub loop-i-again : need.loop-i-again
 loop-i-again c =
     each-more (gate-line (c .args .counts)) with-gate (c .args .counts .gates) (c .loop-i .i) _ _ _ _ _ (omega arith)
-        (c .in-Continue-gate .ensures tt) (take-pair (c .loop-i .words) (c .loop-i .i) _ _ (omega arith)) ∙ c .loop-i .inv
+        (c .in-Continue-gate .ensures tt) (ap (take (2 * (c .loop-i .i + 1))) (c .write-gate .ensures) ∙ take-pair (c .loop-i .words) (c .loop-i .i) _ _ (omega arith)) ∙ c .loop-i .inv
 
 pub returns-in-Break-gate : need.returns-in-Break-gate
 returns-in-Break-gate c =
