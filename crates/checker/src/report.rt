@@ -5,7 +5,6 @@ ghost use Rattle.std.specs.Vec.{made};
 ghost use Rattle.std.specs.declared.option.Option.the-variants.{Some};
 ghost use Rattle.netlists.specs.Reading.{reading, words-after};
 ghost use Rattle.checker.specs.Report as spec;
-
 use netlists::counts::Counts;
 use netlists::counts::CountsDisplay;
 use netlists::fault::ReadFault;
@@ -38,7 +37,12 @@ pub enum Report {
 
 impl Report {
     // Reads the two netlists, each into its lent words.
-    fn of_texts(original: &[u8], gated: &[u8], original_words: &mut [u32], gated_words: &mut [u32]) -> Report
+    fn of_texts(
+        original: &[u8],
+        gated: &[u8],
+        original_words: &mut [u32],
+        gated_words: &mut [u32],
+    ) -> Report
         ensures report { λ r. ⌜ r ≡ spec.of-readings (reading (length (now («original_words» .entry))) (now (original .entry))) (reading (length (now («gated_words» .entry))) (now (gated .entry))) ⌝ }
         ensures original_after { λ _. ⌜ now («original_words» .exit) ≡ words-after (reading (length (now («original_words» .entry))) (now (original .entry))) (now («original_words» .entry)) ⌝ }
         ensures gated_after { λ _. ⌜ now («gated_words» .exit) ≡ spec.gated-after (reading (length (now («original_words» .entry))) (now (original .entry))) (reading (length (now («gated_words» .entry))) (now (gated .entry))) (now («gated_words» .entry)) ⌝ }

@@ -43,9 +43,10 @@ pub judged-parts : {X : Type 0} (k : ℕ) (r : Refusal) (o : Option (X × List �
     → judged k r o checks ≡ Ok p → (o ≡ Some p) × All (λ c. c .1 ≡ false) (checks (p .0))
 judged-parts k r None checks p e = absurd (never-both _ p e)
 judged-parts {X = X} k r (Some q) checks p e =
-    let n = none-due k (first-due (checks (q .0))) q p e in
-    (ap (λ (x : X × List ℕ). Some x) (n .1),
-    all-passed (checks (p .0)) (sym (ap (λ (x : X × List ℕ). first-due (checks (x .0))) (n .1)) ∙ n .0))
+    let n = none-due k (first-due (checks (q .0))) q p e in (
+      ap (λ (x : X × List ℕ). Some x) (n .1),
+      all-passed (checks (p .0)) (sym (ap (λ (x : X × List ℕ). first-due (checks (x .0))) (n .1)) ∙ n .0),
+    )
 
 pub counts-fit-from : (h : Header) → Bounded-counts (h .counts) → h .last ≡ last-net (h .counts) → counts-fit h ≡ true
 counts-fit-from h b e =
@@ -62,11 +63,16 @@ counts-fit-parts h e =
     let b = and-parts (leb (c .flops) 256) _ (a .1) in
     let d = and-parts (leb (c .gates) 8192) _ (b .1) in
     let f = and-parts (leb 1 (c .outputs)) _ (d .1) in
-    let g = and-parts (leb (c .outputs) 256) _ (f .1) in
-    (record
-      { few-inputs = leb-true (c .inputs) 256 (a .0); few-flops = leb-true (c .flops) 256 (b .0); few-gates = leb-true (c .gates) 8192 (d .0)
-      ; some-output = leb-true 1 (c .outputs) (f .0); few-outputs = leb-true (c .outputs) 256 (g .0) },
-    eqb-true (h .last) (last-net c) (g .1))
+    let g = and-parts (leb (c .outputs) 256) _ (f .1) in (
+      record {
+        few-inputs = leb-true (c .inputs) 256 (a .0);
+        few-flops = leb-true (c .flops) 256 (b .0);
+        few-gates = leb-true (c .gates) 8192 (d .0);
+        some-output = leb-true 1 (c .outputs) (f .0);
+        few-outputs = leb-true (c .outputs) 256 (g .0);
+      },
+      eqb-true (h .last) (last-net c) (g .1),
+    )
 
 -- the third number of a flop's line with this pin
 abbrev pub third-of : Bool → ℕ → ℕ → Option ℕ
@@ -99,10 +105,11 @@ third-back own (Some zero) e = refl
 third-back own (Some (suc zero)) e = refl
 third-back own (Some (suc (suc n))) e =
     let l : leb (suc (suc n)) 1 ≡ false = lt-leb (suc (suc n)) 1 (omega arith) in
-    elim (or-cases (leb (suc (suc n)) 1) (eqb (suc (suc n)) own) e)
-    [ inl a ↦ absurd (both-ways (leb (suc (suc n)) 1) l a)
-    | inr a ↦ let o : suc (suc n) ≡ own = eqb-true (suc (suc n)) own a in
-        ap (λ q. third-number false own (cond q (suc (suc n)) 2)) l ∙ ap (λ m. m ∷ []) (sym o) ]
+    elim (or-cases (leb (suc (suc n)) 1) (eqb (suc (suc n)) own) e) [
+      | inl a ↦ absurd (both-ways (leb (suc (suc n)) 1) l a)
+      | inr a ↦ let o : suc (suc n) ≡ own = eqb-true (suc (suc n)) own a in
+          ap (λ q. third-number false own (cond q (suc (suc n)) 2)) l ∙ ap (λ m. m ∷ []) (sym o)
+    ]
 
 pub pin-in : (r : Option ℕ) → pin r ≤ 2
 pin-in None = omega arith

@@ -27,7 +27,7 @@ length-gates (g ∷ gs) nets = ap suc (length-gates gs (nets ++ ((value nets (g 
 gate-is-and : (gs : List (ℕ × ℕ)) (nets : List Bool) (i : ℕ) → i < length gs
     → getD gs i (0, 0) .0 / 2 < length nets + i → getD gs i (0, 0) .1 / 2 < length nets + i
     → getD (nets ++ gate-values gs nets) (length nets + i) false
-        ≡ (value (nets ++ gate-values gs nets) (getD gs i (0, 0) .0) && value (nets ++ gate-values gs nets) (getD gs i (0, 0) .1))
+    ≡ (value (nets ++ gate-values gs nets) (getD gs i (0, 0) .0) && value (nets ++ gate-values gs nets) (getD gs i (0, 0) .1))
 gate-is-and [] nets i h l r = absurd (omega arith)
 gate-is-and (g ∷ gs) nets zero h l r =
     getD-append-add nets (gate-values (g ∷ gs) nets) 0 false
@@ -40,7 +40,7 @@ gate-is-and (g ∷ gs) nets (suc i) h l r =
     let k : length nets′ + i ≡ length nets + suc i = omega arith in
     let ih = gate-is-and gs nets′ i (omega arith) (omega arith) (omega arith) in
     subst (λ (w : List Bool). getD w (length nets + suc i) false ≡ (value w (getD gs i (0, 0) .0) && value w (getD gs i (0, 0) .1))) e
-        (ap (λ m. getD (nets′ ++ gate-values gs nets′) m false) (sym k) ∙ ih)
+    (ap (λ m. getD (nets′ ++ gate-values gs nets′) m false) (sym k) ∙ ih)
 
 pub cycles : (net : Net) → Bounded net → Cycles net
 cycles net b state inputs =
@@ -55,26 +55,27 @@ cycles net b state inputs =
     let ln : length nets ≡ 1 + c .inputs + c .flops = omega arith in
     let lg : length gates ≡ c .gates = length-gates (net .operands) nets ∙ b .operands-are in
     let lw : length (nets ++ gates) ≡ length nets + length gates = length-append nets gates in
-    record
-      { false-net = refl
-      ; input-nets = λ i h.
+    record {
+      false-net = refl;
+      input-nets = λ i h.
           let s : 1 + i ≡ suc i = omega arith in
           even-value (nets ++ gates) (1 + i) ∙ ap (λ m. getD (nets ++ gates) m false) s
           ∙ getD-append-left (ins ++ held) gates false i (omega arith) ∙ getD-append-left ins held false i (omega arith)
-          ∙ getD-map-counting (λ k. getD inputs k false) 0 (c .inputs) i i false h (omega arith)
-      ; flop-nets = λ j h.
+          ∙ getD-map-counting (λ k. getD inputs k false) 0 (c .inputs) i i false h (omega arith);
+      flop-nets = λ j h.
           let s : 1 + c .inputs + j ≡ suc (c .inputs + j) = omega arith in
           let d : c .inputs + j - c .inputs ≡ j = omega arith in
           even-value (nets ++ gates) (1 + c .inputs + j) ∙ ap (λ m. getD (nets ++ gates) m false) s
           ∙ getD-append-left (ins ++ held) gates false (c .inputs + j) (omega arith)
           ∙ getD-append-right ins held (c .inputs) (c .inputs + j) false li (omega arith)
           ∙ ap (λ m. getD held m false) d
-          ∙ getD-map-counting (λ k. getD state k false) 0 (c .flops) j j false h (omega arith)
-      ; gate-nets = λ i h.
+          ∙ getD-map-counting (λ k. getD state k false) 0 (c .flops) j j false h (omega arith);
+      gate-nets = λ i h.
           let o = b .operands-in i h in let o₀ = o .0 in let o₁ = o .1 in
           let s : 1 + c .inputs + c .flops + i ≡ length nets + i = omega arith in
           even-value (nets ++ gates) (1 + c .inputs + c .flops + i) ∙ ap (λ m. getD (nets ++ gates) m false) s
-          ∙ gate-is-and (net .operands) nets i (omega (arith, b .operands-are)) (omega arith) (omega arith)
-      ; all-nets = omega arith
-      ; outs-given = length-map (net .outs) (value (values net state inputs)) ∙ b .outs-are
-      ; nexts-given = length-map (net .nexts) (value (values net state inputs)) ∙ b .nexts-are }
+          ∙ gate-is-and (net .operands) nets i (omega (arith, b .operands-are)) (omega arith) (omega arith);
+      all-nets = omega arith;
+      outs-given = length-map (net .outs) (value (values net state inputs)) ∙ b .outs-are;
+      nexts-given = length-map (net .nexts) (value (values net state inputs)) ∙ b .nexts-are;
+    }

@@ -9,6 +9,10 @@ use Rattle.netlists.proofs.Refused.{placed}
 use Rattle.netlists.proofs.ReadBack.{reads-back}
 
 pub laws : (lent : ℕ) (t : List ℕ) → Laws lent t
-laws lent t = record
-  { lines-exact = lines-exact; reads-back = reads-back lent t; accepts-written = accepts-written lent t; placed = placed lent t
-  ; cycles = λ net e. cycles net (accepts-written lent t net e .0) }
+laws lent t = record {
+  lines-exact = lines-exact;
+  reads-back = reads-back lent t;
+  accepts-written = accepts-written lent t;
+  placed = placed lent t;
+  cycles = λ net e. cycles net (accepts-written lent t net e .0);
+}

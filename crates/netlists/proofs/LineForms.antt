@@ -48,7 +48,7 @@ flop-read own n r t a b d =
 
 header-read : (m i l o a : ℕ) (t : List ℕ) → m < 2 ^ 32 → i < 2 ^ 32 → l < 2 ^ 32 → o < 2 ^ 32 → a < 2 ^ 32
     → header (codes "aag" ++ (32 ∷ (line m (i ∷ l ∷ o ∷ a ∷ []) ++ t)))
-        ≡ Some (record { last = m; counts = record { inputs = i; flops = l; gates = a; outputs = o } }, t)
+    ≡ Some (record { last = m; counts = record { inputs = i; flops = l; gates = a; outputs = o } }, t)
 header-read m i l o a t hm hi hl ho ha =
     let p = numeral-of-line m (i ∷ l ∷ o ∷ a ∷ []) t hm in let q = field-of-line i (l ∷ o ∷ a ∷ []) t hi in let r = field-of-line l (o ∷ a ∷ []) t hl in
     let s = field-of-line o (a ∷ []) t ho in let u = field-of-line a [] t ha in rw (p, q, r, s, u) refl
@@ -66,13 +66,14 @@ some-parts {X = X} x y t u e =
 
 byte-exact : (b : ℕ) (t : List ℕ) (p : Unit {0} × List ℕ) → byte b t ≡ Some p → t ≡ b ∷ (p .1)
 byte-exact b [] p e = absurd (none-some (byte b []) p refl e)
-byte-exact b (x ∷ t) p e = elim (cases-bool (eqb x b))
-    [ inl is ↦
-        let o : x ≡ b = eqb-true x b is in
-        let f : _≡_ {A = Option (Unit {0} × List ℕ)} (Some (tt, t)) (Some p) = sym (ap (λ q. cond q (Some (tt, t)) None) is) ∙ e in
-        let q = some-parts tt (p .0) t (p .1) f in
-        let q₁ = q .1 in cc
-    | inr no′ ↦ absurd (none-some (byte b (x ∷ t)) p (ap (λ q. cond q (Some (tt, t)) None) no′) e) ]
+byte-exact b (x ∷ t) p e = elim (cases-bool (eqb x b)) [
+  | inl is ↦
+      let o : x ≡ b = eqb-true x b is in
+      let f : _≡_ {A = Option (Unit {0} × List ℕ)} (Some (tt, t)) (Some p) = sym (ap (λ q. cond q (Some (tt, t)) None) is) ∙ e in
+      let q = some-parts tt (p .0) t (p .1) f in
+      let q₁ = q .1 in cc
+  | inr no′ ↦ absurd (none-some (byte b (x ∷ t)) p (ap (λ q. cond q (Some (tt, t)) None) no′) e)
+]
 
 -- u begins with the fields of these numbers and the end of the line, and v follows
 abbrev Ends : List ℕ → List ℕ → List ℕ → Type 0
@@ -113,11 +114,11 @@ gate-exact t u g e =
     let f = then-parts (byte 10 (d .0 .1)) _ (g, u) (d .1 .1) in
     let q = some-parts _ g (f .0 .1) u (f .1 .1) in
     let r = line-exact t (a .0) (b .0 .0 ∷ d .0 .0 ∷ []) (f .0 .1) (a .1 .0)
-        (field-exact (a .0 .1) (b .0) (d .0 .0 ∷ []) (f .0 .1) (b .1 .0)
-        (field-exact (b .0 .1) (d .0) [] (f .0 .1) (d .1 .0) (end-exact (d .0 .1) (f .0) (f .1 .0)))) in
+    (field-exact (a .0 .1) (b .0) (d .0 .0 ∷ []) (f .0 .1) (b .1 .0)
+    (field-exact (b .0 .1) (d .0) [] (f .0 .1) (d .1 .0) (end-exact (d .0 .1) (f .0) (f .1 .0)))) in
     let q₀ = q .0 in let q₁ = q .1 in
     subst (λ (m : GateLine). Starts-line t (m .own) (m .left ∷ m .right ∷ []) u) q₀
-        (subst (λ (v : List ℕ). Starts-line t (a .0 .0) (b .0 .0 ∷ d .0 .0 ∷ []) v) q₁ r)
+    (subst (λ (v : List ℕ). Starts-line t (a .0 .0) (b .0 .0 ∷ d .0 .0 ∷ []) v) q₁ r)
 
 third-exact : (t : List ℕ) (p : Option ℕ × List ℕ) → third t ≡ Some p → Ends t (listOf (p .0)) (p .1)
 third-exact t p e = by-first (byte 10 t) refl e
@@ -144,10 +145,10 @@ flop-exact t u f e =
     let d = then-parts (third (b .0 .1)) _ (f, u) (b .1 .1) in
     let q = some-parts _ f (d .0 .1) u (d .1 .1) in
     let r = line-exact t (a .0) (b .0 .0 ∷ listOf (d .0 .0)) (d .0 .1) (a .1 .0)
-        (field-exact (a .0 .1) (b .0) (listOf (d .0 .0)) (d .0 .1) (b .1 .0) (third-exact (b .0 .1) (d .0) (d .1 .0))) in
+    (field-exact (a .0 .1) (b .0) (listOf (d .0 .0)) (d .0 .1) (b .1 .0) (third-exact (b .0 .1) (d .0) (d .1 .0))) in
     let q₀ = q .0 in let q₁ = q .1 in
     subst (λ (m : FlopLine). Starts-line t (m .own) (m .next ∷ listOf (m .third)) u) q₀
-        (subst (λ (v : List ℕ). Starts-line t (a .0 .0) (b .0 .0 ∷ listOf (d .0 .0)) v) q₁ r)
+    (subst (λ (v : List ℕ). Starts-line t (a .0 .0) (b .0 .0 ∷ listOf (d .0 .0)) v) q₁ r)
 
 -- a text that begins with line 1 of this header
 abbrev Starts-header : List ℕ → Header → List ℕ → Type 0
@@ -173,8 +174,8 @@ flops-exact m i t u h e =
     let z = then-parts (byte 10 (a .0 .1)) _ (h, u) (a .1 .1) in
     let q = some-parts _ h (z .0 .1) u (z .1 .1) in
     let r = field-exact t (l .0) (o .0 .0 ∷ a .0 .0 ∷ []) (z .0 .1) (l .1 .0)
-        (field-exact (l .0 .1) (o .0) (a .0 .0 ∷ []) (z .0 .1) (o .1 .0)
-        (field-exact (o .0 .1) (a .0) [] (z .0 .1) (a .1 .0) (end-exact (a .0 .1) (z .0) (z .1 .0)))) in
+    (field-exact (l .0 .1) (o .0) (a .0 .0 ∷ []) (z .0 .1) (o .1 .0)
+    (field-exact (o .0 .1) (a .0) [] (z .0 .1) (a .1 .0) (end-exact (a .0 .1) (z .0) (z .1 .0)))) in
     subst (λ (k : Header). Ends-flops m i t k u) (q .0) (refl, refl, subst (λ (v : List ℕ). Ends t (l .0 .0 ∷ o .0 .0 ∷ a .0 .0 ∷ []) v) (q .1) r)
 
 abbrev Ends-last : List ℕ → Header → List ℕ → Type 0
@@ -188,26 +189,39 @@ last-exact t u h e =
     let f = flops-exact (m .0 .0) (i .0 .0) (i .0 .1) u h (i .1 .1) in
     let ns : List ℕ = h .counts .flops ∷ h .counts .outputs ∷ h .counts .gates ∷ [] in
     let r = field-exact (m .0 .1) (i .0) ns u (i .1 .0) (f .2) in
-    let s = spaced-exact t (m .0) (i .0 .0 ∷ ns) u (m .1 .0) r in
-    (s .0, (s .1 .0, subst (λ (k : ℕ). Starts-line (s .0) k (h .counts .inputs ∷ ns) u) (sym (f .0))
-        (subst (λ (k : ℕ). Starts-line (s .0) (m .0 .0) (k ∷ ns) u) (sym (f .1)) (s .1 .1))))
+    let s = spaced-exact t (m .0) (i .0 .0 ∷ ns) u (m .1 .0) r in (
+      s .0,
+      (
+        s .1 .0,
+        subst (λ (k : ℕ). Starts-line (s .0) k (h .counts .inputs ∷ ns) u) (sym (f .0))
+            (subst (λ (k : ℕ). Starts-line (s .0) (m .0 .0) (k ∷ ns) u) (sym (f .1)) (s .1 .1)),
+      ),
+    )
 
 header-exact : (t u : List ℕ) (h : Header) → header t ≡ Some (h, u) → Starts-header t h u
 header-exact t u h e =
     let x = then-parts (byte 97 t) _ (h, u) e in
     let y = then-parts (byte 97 (x .0 .1)) _ (h, u) (x .1 .1) in
     let z = then-parts (byte 103 (y .0 .1)) (λ _ v. from-last v) (h, u) (y .1 .1) in
-    let r = last-exact (z .0 .1) u h (z .1 .1) in
-    (r .0, (byte-exact 97 t (x .0) (x .1 .0) ∙ ap (λ (v : List ℕ). 97 ∷ v) (byte-exact 97 (x .0 .1) (y .0) (y .1 .0)
-        ∙ ap (λ (v : List ℕ). 97 ∷ v) (byte-exact 103 (y .0 .1) (z .0) (z .1 .0) ∙ ap (λ (v : List ℕ). 103 ∷ v) (r .1 .0))), r .1 .1))
+    let r = last-exact (z .0 .1) u h (z .1 .1) in (
+      r .0,
+      (
+        byte-exact 97 t (x .0) (x .1 .0) ∙ ap (λ (v : List ℕ). 97 ∷ v) (byte-exact 97 (x .0 .1) (y .0) (y .1 .0)
+            ∙ ap (λ (v : List ℕ). 97 ∷ v) (byte-exact 103 (y .0 .1) (z .0) (z .1 .0) ∙ ap (λ (v : List ℕ). 103 ∷ v) (r .1 .0))),
+        r .1 .1,
+      ),
+    )
 
 pub lines-exact : Lines-exact
-lines-exact = record
-  { headers = λ t u h. (header-exact t u h, λ s.
-      ap header (s .1 .0 ∙ ap (λ (v : List ℕ). codes "aag" ++ (32 ∷ v)) (s .1 .1 .0))
-      ∙ header-read (h .last) (h .counts .inputs) (h .counts .flops) (h .counts .outputs) (h .counts .gates) u
-          (s .1 .1 .1 .0) (s .1 .1 .1 .1 .0) (s .1 .1 .1 .1 .1 .0) (s .1 .1 .1 .1 .1 .1 .0) (s .1 .1 .1 .1 .1 .1 .1 .0))
-  ; singles = λ t u n. (single-exact t u n, λ s. ap single (s .0) ∙ single-read n u (s .1 .0))
-  ; flops = λ t u f. (flop-exact t u f, λ s. ap flop (s .0) ∙ flop-read (f .own) (f .next) (f .third) u (s .1 .0) (s .1 .1 .0) (s .1 .1 .1))
-  ; gates = λ t u g. (gate-exact t u g, λ s. ap gate (s .0) ∙ gate-read (g .own) (g .left) (g .right) u (s .1 .0) (s .1 .1 .0) (s .1 .1 .1 .0))
-  }
+lines-exact = record {
+  headers = λ t u h. (
+    header-exact t u h,
+    λ s.
+        ap header (s .1 .0 ∙ ap (λ (v : List ℕ). codes "aag" ++ (32 ∷ v)) (s .1 .1 .0))
+        ∙ header-read (h .last) (h .counts .inputs) (h .counts .flops) (h .counts .outputs) (h .counts .gates) u
+        (s .1 .1 .1 .0) (s .1 .1 .1 .1 .0) (s .1 .1 .1 .1 .1 .0) (s .1 .1 .1 .1 .1 .1 .0) (s .1 .1 .1 .1 .1 .1 .1 .0),
+  );
+  singles = λ t u n. (single-exact t u n, λ s. ap single (s .0) ∙ single-read n u (s .1 .0));
+  flops = λ t u f. (flop-exact t u f, λ s. ap flop (s .0) ∙ flop-read (f .own) (f .next) (f .third) u (s .1 .0) (s .1 .1 .0) (s .1 .1 .1));
+  gates = λ t u g. (gate-exact t u g, λ s. ap gate (s .0) ∙ gate-read (g .own) (g .left) (g .right) u (s .1 .0) (s .1 .1 .0) (s .1 .1 .1 .0));
+}

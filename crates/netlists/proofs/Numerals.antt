@@ -32,9 +32,9 @@ next-digit n h t =
 scanned : (n : ℕ) → 0 < n → n < 2 ^ 32 → (t : List ℕ) → numeral (decimal n ++ t) ≡ digits n t
 scanned n p h t =
     decimal-by-steps (λ m ds. 0 < m → m < 2 ^ 32 → (u : List ℕ) → numeral (ds ++ u) ≡ digits m u)
-        (λ m l q k u. first-digit m l q u)
-        (λ m ds l ih q k u. ap numeral (append-assoc ds ((48 + m % 10) ∷ []) u) ∙ ih (omega arith) (omega arith) ((48 + m % 10) ∷ u) ∙ next-digit m k u)
-        n (omega arith) p h t
+    (λ m l q k u. first-digit m l q u)
+    (λ m ds l ih q k u. ap numeral (append-assoc ds ((48 + m % 10) ∷ []) u) ∙ ih (omega arith) (omega arith) ((48 + m % 10) ∷ u) ∙ next-digit m k u)
+    n (omega arith) p h t
 
 stops : (n b : ℕ) (t : List ℕ) → is-digit b ≡ false → digits n (b ∷ t) ≡ Some (n, b ∷ t)
 stops n b t e = rw e refl
@@ -71,34 +71,38 @@ one-digit-more n b t p l k h =
 
 digits-exact : (t u : List ℕ) (n m : ℕ) → 0 < n → n < 2 ^ 32 → digits n t ≡ Some (m, u) → Begins (decimal n ++ t) m u
 digits-exact [] u n m p h e = same-front n m [] u h e
-digits-exact (b ∷ t) u n m p h e = elim (cases-bool (is-digit b))
-    [ inr no′ ↦ same-front n m (b ∷ t) u h (sym (ap (λ q. cond q (cond (ltb (n * 10 + (b - 48)) (2 ^ 32)) (digits (n * 10 + (b - 48)) t) None) (Some (n, b ∷ t))) no′) ∙ e)
-    | inl is ↦
-        let f : cond (ltb (n * 10 + (b - 48)) (2 ^ 32)) (digits (n * 10 + (b - 48)) t) None ≡ Some (m, u)
-            = sym (ap (λ q. cond q (cond (ltb (n * 10 + (b - 48)) (2 ^ 32)) (digits (n * 10 + (b - 48)) t) None) (Some (n, b ∷ t))) is) ∙ e in
-        let d = digit-parts b is in
-        elim (cases-bool (ltb (n * 10 + (b - 48)) (2 ^ 32)))
-        [ inr big ↦ absurd (none-some _ (m, u) (ap (λ q. cond q (digits (n * 10 + (b - 48)) t) None) big) f)
+digits-exact (b ∷ t) u n m p h e = elim (cases-bool (is-digit b)) [
+  | inr no′ ↦ same-front n m (b ∷ t) u h (sym (ap (λ q. cond q (cond (ltb (n * 10 + (b - 48)) (2 ^ 32)) (digits (n * 10 + (b - 48)) t) None) (Some (n, b ∷ t))) no′) ∙ e)
+  | inl is ↦
+      let f : cond (ltb (n * 10 + (b - 48)) (2 ^ 32)) (digits (n * 10 + (b - 48)) t) None ≡ Some (m, u)
+      = sym (ap (λ q. cond q (cond (ltb (n * 10 + (b - 48)) (2 ^ 32)) (digits (n * 10 + (b - 48)) t) None) (Some (n, b ∷ t))) is) ∙ e in
+      let d = digit-parts b is in
+      elim (cases-bool (ltb (n * 10 + (b - 48)) (2 ^ 32))) [
+        | inr big ↦ absurd (none-some _ (m, u) (ap (λ q. cond q (digits (n * 10 + (b - 48)) t) None) big) f)
         | inl small ↦
             let s = ltb-true (n * 10 + (b - 48)) (2 ^ 32) small in
             let i = digits-exact t u (n * 10 + (b - 48)) m (omega arith) s (sym (ap (λ q. cond q (digits (n * 10 + (b - 48)) t) None) small) ∙ f) in
-            (one-digit-more n b t p (d .0) (d .1) s ∙ i .0, i .1) ] ]
+            (one-digit-more n b t p (d .0) (d .1) s ∙ i .0, i .1)
+      ]
+]
 
 pub numeral-exact : (t u : List ℕ) (n : ℕ) → numeral t ≡ Some (n, u) → Begins t n u
 numeral-exact [] u n e = absurd (none-some (numeral []) (n, u) refl e)
-numeral-exact (b ∷ t) u n e = elim (cases-bool (is-digit b))
-    [ inr no′ ↦ absurd (none-some (numeral (b ∷ t)) (n, u) (rw no′ refl) e)
-    | inl is ↦
-        let d = digit-parts b is in
-        let f : cond (eqb (b - 48) 0) (Some (0, t)) (digits (b - 48) t) ≡ Some (n, u)
-            = sym (ap (λ q. then (cond q (Some (b - 48, t)) None) (λ k v. cond (eqb k 0) (Some (0, v)) (digits k v))) is) ∙ e in
-        let z : decimal (b - 48) ++ t ≡ b ∷ t
-            = ap (λ (x : List ℕ). x ++ t) (decimal-digit (b - 48) (omega arith)) ∙ ap (λ k. k ∷ t) (omega arith) in
-        let whole : Begins (decimal (b - 48) ++ t) n u = elim (cases-bool (eqb (b - 48) 0))
-            [ inl nought ↦
-                let o : b - 48 ≡ 0 = eqb-true (b - 48) 0 nought in
-                same-front (b - 48) n t u (omega arith) (ap (λ k. Some (k, t)) o ∙ sym (ap (λ q. cond q (Some (0, t)) (digits (b - 48) t)) nought) ∙ f)
-            | inr other ↦
-                let o : 0 < b - 48 = omega (arith, eqb-false (b - 48) 0 other) in
-                digits-exact t u (b - 48) n o (omega arith) (sym (ap (λ q. cond q (Some (0, t)) (digits (b - 48) t)) other) ∙ f) ] in
-        (sym z ∙ whole .0, whole .1) ]
+numeral-exact (b ∷ t) u n e = elim (cases-bool (is-digit b)) [
+  | inr no′ ↦ absurd (none-some (numeral (b ∷ t)) (n, u) (rw no′ refl) e)
+  | inl is ↦
+      let d = digit-parts b is in
+      let f : cond (eqb (b - 48) 0) (Some (0, t)) (digits (b - 48) t) ≡ Some (n, u)
+      = sym (ap (λ q. then (cond q (Some (b - 48, t)) None) (λ k v. cond (eqb k 0) (Some (0, v)) (digits k v))) is) ∙ e in
+      let z : decimal (b - 48) ++ t ≡ b ∷ t
+      = ap (λ (x : List ℕ). x ++ t) (decimal-digit (b - 48) (omega arith)) ∙ ap (λ k. k ∷ t) (omega arith) in
+      let whole : Begins (decimal (b - 48) ++ t) n u = elim (cases-bool (eqb (b - 48) 0)) [
+        | inl nought ↦
+            let o : b - 48 ≡ 0 = eqb-true (b - 48) 0 nought in
+            same-front (b - 48) n t u (omega arith) (ap (λ k. Some (k, t)) o ∙ sym (ap (λ q. cond q (Some (0, t)) (digits (b - 48) t)) nought) ∙ f)
+        | inr other ↦
+            let o : 0 < b - 48 = omega (arith, eqb-false (b - 48) 0 other) in
+            digits-exact t u (b - 48) n o (omega arith) (sym (ap (λ q. cond q (Some (0, t)) (digits (b - 48) t)) other) ∙ f)
+      ] in
+      (sym z ∙ whole .0, whole .1)
+]

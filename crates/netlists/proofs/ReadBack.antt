@@ -40,7 +40,7 @@ each-written {X = X} line write item a (suc n) h t =
     ap (λ (u : List ℕ). each line (a ∷ counting (a + 1) n) u) (append-assoc (write a) (joined write (counting (a + 1) n)) t)
     ∙ ap (λ q. onward q (λ x u. onward (each line (counting (a + 1) n) u) (λ xs v. Ok (x ∷ xs, v)))) (h a (omega arith) (omega arith) tail)
     ∙ ap (λ q. onward q (λ xs v. Ok (item a ∷ xs, v)))
-        (each-written line write item (a + 1) n (λ i l k u. h i (omega arith) (omega arith) u) t)
+    (each-written line write item (a + 1) n (λ i l k u. h i (omega arith) (omega arith) u) t)
 
 input-back : (i : ℕ) → i < 256 → (t : List ℕ) → input-line i (input-text i ++ t) ≡ Ok (input-literal i, t)
 input-back i h t =
@@ -66,12 +66,12 @@ gate-back net b i h t =
     let l = b .operands-in i h .0 in let r = b .operands-in i h .1 in
     let e = eq-eqb own own refl in let p = lt-leb own (gate-at net i .0) l in let q = lt-leb own (gate-at net i .1) r in
     passed _ _ _ _ (gate-item net i) t
-        (lines-exact .gates (gate-text net i ++ t) t (gate-item net i) .1 (refl, (omega arith, (omega arith, (omega arith, tt)))))
-        (rw (e, p, q) refl)
+    (lines-exact .gates (gate-text net i ++ t) t (gate-item net i) .1 (refl, (omega arith, (omega arith, (omega arith, tt)))))
+    (rw (e, p, q) refl)
 
 abbrev flop-item : Net → (ℕ → Bool) → ℕ → FlopLine
 flop-item net bare j = record
-  { own = flop-literal (net .counts) j; next = next-at net j; third = third-of (bare j) (flop-literal (net .counts) j) (pin-at net j) }
+    { own = flop-literal (net .counts) j; next = next-at net j; third = third-of (bare j) (flop-literal (net .counts) j) (pin-at net j) }
 
 thirds-small : (bare : Bool) (own p : ℕ) → own < 2 ^ 32 → All (λ m. m < 2 ^ 32) (listOf (third-of bare own p))
 thirds-small true own zero h = tt
@@ -87,10 +87,11 @@ flop-back net bare b j h t =
     let x : next-at net j ≤ top (net .counts) = all-getD (λ y. y ≤ top (net .counts)) (net .nexts) j 0 (omega (arith, b .nexts-are)) (b .nexts-in) in
     let e = eq-eqb own own refl in let n = le-ltb (top (net .counts)) (next-at net j) x in let f = third-fits (bare j) own (pin-at net j) in
     passed _ _ _ _ (flop-item net bare j) t
-        (lines-exact .flops (flop-text net bare j ++ t) t (flop-item net bare j) .1
-            (ap (λ (ns : List ℕ). line own (next-at net j ∷ ns) ++ t) (sym (third-is (bare j) own (pin-at net j))),
-            (omega arith, (omega arith, thirds-small (bare j) own (pin-at net j) (omega arith)))))
-        (rw (e, n, f) refl)
+    (lines-exact .flops (flop-text net bare j ++ t) t (flop-item net bare j) .1 (
+      ap (λ (ns : List ℕ). line own (next-at net j ∷ ns) ++ t) (sym (third-is (bare j) own (pin-at net j))),
+      (omega arith, (omega arith, thirds-small (bare j) own (pin-at net j) (omega arith))),
+    ))
+    (rw (e, n, f) refl)
 
 header-back : (net : Net) → Bounded net → (lent : ℕ) → room (net .counts) ≤ lent → (t : List ℕ)
     → header-line lent (header-text (net .counts) ++ t) ≡ Ok (record { last = last-net (net .counts); counts = net .counts }, t)
@@ -100,10 +101,11 @@ header-back net b lent l t =
     let k = b .counts-in in
     let f = counts-fit-from h k refl in let e = le-ltb lent (room c) l in
     passed 1 _ _ _ h t
-        (lines-exact .headers (header-text c ++ t) t h .1
-            (line (last-net c) (c .inputs ∷ c .flops ∷ c .outputs ∷ c .gates ∷ []) ++ t,
-            (refl, (refl, (omega arith, (omega arith, (omega arith, (omega arith, (omega arith, tt)))))))))
-        (rw (f, e) refl)
+    (lines-exact .headers (header-text c ++ t) t h .1 (
+      line (last-net c) (c .inputs ∷ c .flops ∷ c .outputs ∷ c .gates ∷ []) ++ t,
+      (refl, (refl, (omega arith, (omega arith, (omega arith, (omega arith, (omega arith, tt))))))),
+    ))
+    (rw (f, e) refl)
 
 map-twice : {X Y Z : Type 0} (f : X → Y) (g : Y → Z) (xs : List X) → map g (map f xs) ≡ map (λ x. g (f x)) xs
 map-twice f g [] = refl
@@ -123,28 +125,28 @@ same-net c gs ns ps os net a b d e f = λ i. record { counts = a i; operands = b
 
 net-back : (net : Net) (bare : ℕ → Bool) → Bounded net
     → net-of (net .counts) (map (flop-item net bare) (counting 0 (net .counts .flops))) (map (out-at net) (counting 0 (net .counts .outputs)))
-        (map (gate-item net) (counting 0 (net .counts .gates))) ≡ net
+    (map (gate-item net) (counting 0 (net .counts .gates))) ≡ net
 net-back net bare b =
     same-net (net .counts) _ _ _ _ net refl
-        (map-twice (gate-item net) (λ g. (g .left, g .right)) (counting 0 (net .counts .gates)) ∙ listed (net .operands) (net .counts .gates) (0, 0) (b .operands-are))
-        (map-twice (flop-item net bare) (λ f. f .next) (counting 0 (net .counts .flops)) ∙ listed (net .nexts) (net .counts .flops) 0 (b .nexts-are))
-        (map-twice (flop-item net bare) (λ f. pin (f .third)) (counting 0 (net .counts .flops))
-            ∙ map-same (λ j. pin (third-of (bare j) (flop-literal (net .counts) j) (pin-at net j))) (pin-at net) 0 (net .counts .flops)
-                (λ j l. third-pin (bare j) (flop-literal (net .counts) j) (pin-at net j) (omega arith)
-                    (all-getD (λ p. p ≤ 2) (net .pins) j 2 (omega (arith, b .pins-are)) (b .pins-in)))
-            ∙ listed (net .pins) (net .counts .flops) 2 (b .pins-are))
-        (listed (net .outs) (net .counts .outputs) 0 (b .outs-are))
+    (map-twice (gate-item net) (λ g. (g .left, g .right)) (counting 0 (net .counts .gates)) ∙ listed (net .operands) (net .counts .gates) (0, 0) (b .operands-are))
+    (map-twice (flop-item net bare) (λ f. f .next) (counting 0 (net .counts .flops)) ∙ listed (net .nexts) (net .counts .flops) 0 (b .nexts-are))
+    (map-twice (flop-item net bare) (λ f. pin (f .third)) (counting 0 (net .counts .flops))
+    ∙ map-same (λ j. pin (third-of (bare j) (flop-literal (net .counts) j) (pin-at net j))) (pin-at net) 0 (net .counts .flops)
+    (λ j l. third-pin (bare j) (flop-literal (net .counts) j) (pin-at net j) (omega arith)
+    (all-getD (λ p. p ≤ 2) (net .pins) j 2 (omega (arith, b .pins-are)) (b .pins-in)))
+    ∙ listed (net .pins) (net .counts .flops) 2 (b .pins-are))
+    (listed (net .outs) (net .counts .outputs) 0 (b .outs-are))
 
 sections-back : (net : Net) (bare : ℕ → Bool) → Bounded net → (t : List ℕ)
     → sections (net .counts) (joined input-text (counting 0 (net .counts .inputs)) ++ (joined (flop-text net bare) (counting 0 (net .counts .flops))
-        ++ (joined (output-text net) (counting 0 (net .counts .outputs)) ++ (joined (gate-text net) (counting 0 (net .counts .gates)) ++ t)))) ≡ Ok (net, t)
+    ++ (joined (output-text net) (counting 0 (net .counts .outputs)) ++ (joined (gate-text net) (counting 0 (net .counts .gates)) ++ t)))) ≡ Ok (net, t)
 sections-back net bare b t =
     let k = b .counts-in in
     sections-read (net .counts) _ _ _ _ _ _ _ _ _
-        (each-written input-line input-text input-literal 0 (net .counts .inputs) (λ i l h u. input-back i (omega arith) u) _)
-        (each-written (flop-line (net .counts)) (flop-text net bare) (flop-item net bare) 0 (net .counts .flops) (λ j l h u. flop-back net bare b j (omega arith) u) _)
-        (each-written (output-line (net .counts)) (output-text net) (out-at net) 0 (net .counts .outputs) (λ j l h u. output-back net b j (omega arith) u) _)
-        (each-written (gate-line (net .counts)) (gate-text net) (gate-item net) 0 (net .counts .gates) (λ i l h u. gate-back net b i (omega arith) u) t)
+    (each-written input-line input-text input-literal 0 (net .counts .inputs) (λ i l h u. input-back i (omega arith) u) _)
+    (each-written (flop-line (net .counts)) (flop-text net bare) (flop-item net bare) 0 (net .counts .flops) (λ j l h u. flop-back net bare b j (omega arith) u) _)
+    (each-written (output-line (net .counts)) (output-text net) (out-at net) 0 (net .counts .outputs) (λ j l h u. output-back net b j (omega arith) u) _)
+    (each-written (gate-line (net .counts)) (gate-text net) (gate-item net) 0 (net .counts .gates) (λ i l h u. gate-back net b i (omega arith) u) t)
     ∙ ap (λ (m : Net). Ok (m, t)) (net-back net bare b)
 
 pub reads-back : (lent : ℕ) (t : List ℕ) → Reads-back lent t
@@ -156,5 +158,5 @@ reads-back lent t net b w l =
     let G : List ℕ = joined (gate-text net) (counting 0 (net .counts .gates)) in
     let e : text net bare ++ later ≡ header-text (net .counts) ++ (I ++ (F ++ (O ++ (G ++ later)))) = simp append-assoc in
     reading-from lent t (I ++ (F ++ (O ++ (G ++ later)))) later (record { last = last-net (net .counts); counts = net .counts }) net
-        (sym (ap (header-line lent) (w .1 .1 ∙ e) ∙ header-back net b lent l (I ++ (F ++ (O ++ (G ++ later))))))
-        (sections-back net bare b later)
+    (sym (ap (header-line lent) (w .1 .1 ∙ e) ∙ header-back net b lent l (I ++ (F ++ (O ++ (G ++ later))))))
+    (sections-back net bare b later)

@@ -63,17 +63,23 @@ each-refused : {X : Type 0} (P : ReadFault → Type 0) (line : ℕ → List ℕ 
 each-refused {X = X} P line a zero h t f e = absurd (never-both {X = List X × List ℕ} f ([], t) (sym e))
 each-refused P line a (suc n) h t f e =
     onward-refused P (line a t) _ f e (λ g q. h a (omega arith) (omega arith) t g q)
-        (λ x u _ q. onward-refused P (each line (counting (a + 1) n) u) _ f q
-            (λ g s. each-refused P line (a + 1) n (λ i l m. h i (omega arith) (omega arith)) u g s)
-            (λ xs v _ s. absurd (never-both f (x ∷ xs, v) (sym s))))
+    (λ x u _ q. onward-refused P (each line (counting (a + 1) n) u) _ f q
+    (λ g s. each-refused P line (a + 1) n (λ i l m. h i (omega arith) (omega arith)) u g s)
+    (λ xs v _ s. absurd (never-both f (x ∷ xs, v) (sym s))))
 
 header-placed : (lent : ℕ) (t : List ℕ) (f : ReadFault) → header-line lent t ≡ Err f → Placed lent f
 header-placed lent t f e =
     judged-refused (Placed lent) 1 MalformedHeader (header t) _ f e refl
-        (λ h. ((λ _. refl), (λ fit. ((λ few.
+    (λ h. (
+      (λ _. refl),
+      (λ fit. (
+        (λ few.
             let b = counts-fit-parts h (not-false _ fit) .0 in
             let l = ltb-true lent (room (h .counts)) few in
-            (refl, omega arith)), (λ _. tt)))))
+            (refl, omega arith)),
+        (λ _. tt),
+      )),
+    ))
 
 input-placed : (lent i : ℕ) → i < 256 → (t : List ℕ) (f : ReadFault) → input-line i t ≡ Err f → Placed lent f
 input-placed lent i l t f e =
@@ -83,7 +89,7 @@ flop-placed : (lent : ℕ) (c : Counts) → Bounded-counts c → (j : ℕ) → j
 flop-placed lent c b j l t f e =
     let place : (2 ≤ 2 + c .inputs + j) × (2 + c .inputs + j ≤ 8961) = (omega arith, omega arith) in
     judged-refused (Placed lent) (2 + c .inputs + j) MalformedLine (flop t) _ f e place
-        (λ x. ((λ _. place), (λ _. ((λ _. place), (λ _. ((λ _. place), (λ _. tt)))))))
+    (λ x. ((λ _. place), (λ _. ((λ _. place), (λ _. ((λ _. place), (λ _. tt)))))))
 
 output-placed : (lent : ℕ) (c : Counts) → Bounded-counts c → (j : ℕ) → j < 256 → (t : List ℕ) (f : ReadFault) → output-line c j t ≡ Err f → Placed lent f
 output-placed lent c b j l t f e =
@@ -99,18 +105,18 @@ gate-placed lent c b i l t f e =
 sections-placed : (lent : ℕ) (c : Counts) → Bounded-counts c → (t : List ℕ) (f : ReadFault) → sections c t ≡ Err f → Placed lent f
 sections-placed lent c b t f e =
     onward-refused (Placed lent) (each input-line (counting 0 (c .inputs)) t) _ f e
-        (each-refused (Placed lent) input-line 0 (c .inputs) (λ i l m. input-placed lent i (omega arith)) t)
+    (each-refused (Placed lent) input-line 0 (c .inputs) (λ i l m. input-placed lent i (omega arith)) t)
     (λ _ u _ e₁. onward-refused (Placed lent) (each (flop-line c) (counting 0 (c .flops)) u) _ f e₁
-        (each-refused (Placed lent) (flop-line c) 0 (c .flops) (λ j l m. flop-placed lent c b j (omega arith)) u)
+    (each-refused (Placed lent) (flop-line c) 0 (c .flops) (λ j l m. flop-placed lent c b j (omega arith)) u)
     (λ fs v _ e₂. onward-refused (Placed lent) (each (output-line c) (counting 0 (c .outputs)) v) _ f e₂
-        (each-refused (Placed lent) (output-line c) 0 (c .outputs) (λ j l m. output-placed lent c b j (omega arith)) v)
+    (each-refused (Placed lent) (output-line c) 0 (c .outputs) (λ j l m. output-placed lent c b j (omega arith)) v)
     (λ os w _ e₃. onward-refused (Placed lent) (each (gate-line c) (counting 0 (c .gates)) w) _ f e₃
-        (each-refused (Placed lent) (gate-line c) 0 (c .gates) (λ i l m. gate-placed lent c b i (omega arith)) w)
+    (each-refused (Placed lent) (gate-line c) 0 (c .gates) (λ i l m. gate-placed lent c b i (omega arith)) w)
     (λ gs x _ e₄. absurd (never-both f (net-of c fs os gs, x) (sym e₄))))))
 
 pub placed : (lent : ℕ) (t : List ℕ) (f : ReadFault) → reading lent t ≡ Err f → Placed lent f
 placed lent t f e =
     onward-refused (Placed lent) (header-line lent t) _ f e (header-placed lent t)
-        (λ h u s q. onward-refused (Placed lent) (sections (h .counts) u) _ f q
-            (sections-placed lent (h .counts) (header-accepted lent t u h s .0) u)
-            (λ net v _ z. absurd (never-both f net (sym z))))
+    (λ h u s q. onward-refused (Placed lent) (sections (h .counts) u) _ f q
+    (sections-placed lent (h .counts) (header-accepted lent t u h s .0) u)
+    (λ net v _ z. absurd (never-both f net (sym z))))

@@ -69,7 +69,7 @@ module _ {S X : Type 0} (line : ℕ → List ℕ → Result (X × List ℕ) Read
       → each-with (counting (k + 1) (n - (k + 1))) s′ u ≡ each-with (counting k (n - k)) s t
   each-more n k s s′ t u x h e p =
       sym (front n k s t h ∙ ap (λ r. onward r (λ y v. each-with (counting (k + 1) (n - (k + 1))) (put s y) v)) (sym e)
-          ∙ ap (λ q. each-with (counting (k + 1) (n - (k + 1))) q u) (sym p))
+      ∙ ap (λ q. each-with (counting (k + 1) (n - (k + 1))) q u) (sym p))
 
   pub each-stops : (n k : ℕ) (s : S) (t : List ℕ) (f : ReadFault) → k < n → Err f ≡ line k t
       → Err f ≡ each-with (counting k (n - k)) s t
@@ -133,16 +133,16 @@ take-pair xs k a b h =
 -- a next literal and a pin more
 pub flop-words : (ws : List ℕ) (n k : ℕ) (f : FlopLine) → k < n → length ws ≡ 2 * n
     → _≡_ {A = List ℕ × List ℕ}
-        (take (k + 1) (set (set ws k (f .next)) (n + k) (pin (f .third))), take (k + 1) (drop n (set (set ws k (f .next)) (n + k) (pin (f .third)))))
-        (with-flop (take k ws, take k (drop n ws)) f)
+    (take (k + 1) (set (set ws k (f .next)) (n + k) (pin (f .third))), take (k + 1) (drop n (set (set ws k (f .next)) (n + k) (pin (f .third)))))
+    (with-flop (take k ws, take k (drop n ws)) f)
 flop-words ws n k f h l =
     let p = pin (f .third) in
     let a : take (k + 1) (set (set ws k (f .next)) (n + k) p) ≡ take k ws ++ (f .next ∷ [])
-        = take-set-le (k + 1) (set ws k (f .next)) (n + k) p (omega arith) ∙ take-more-set ws k (f .next) (omega arith) in
+    = take-set-le (k + 1) (set ws k (f .next)) (n + k) p (omega arith) ∙ take-more-set ws k (f .next) (omega arith) in
     let d : drop n (set (set ws k (f .next)) (n + k) p) ≡ set (drop n ws) k p
-        = drop-set-add n (set ws k (f .next)) k p ∙ ap (λ xs. set xs k p) (drop-set-lt n ws k (f .next) h) in
+    = drop-set-add n (set ws k (f .next)) k p ∙ ap (λ xs. set xs k p) (drop-set-lt n ws k (f .next) h) in
     let b : take (k + 1) (drop n (set (set ws k (f .next)) (n + k) p)) ≡ take k (drop n ws) ++ (p ∷ [])
-        = ap (take (k + 1)) d ∙ take-more-set (drop n ws) k p (simp length-drop (omega arith)) in
+    = ap (take (k + 1)) d ∙ take-more-set (drop n ws) k p (simp length-drop (omega arith)) in
     cc
 
 pub flop-end : (ws : List ℕ) (n k : ℕ) → n ≤ k → k ≤ n → length ws ≡ 2 * n → ws ≡ take k ws ++ take k (drop n ws)

@@ -52,11 +52,20 @@ sections-parts c t net rest e =
     let q : _≡_ {A = Net × List ℕ} (net-of c (b .0 .0) (d .0 .0) (g .0 .0), g .0 .1) (net, rest) = same-ok _ _ (g .1 .1) in
     let n : net ≡ net-of c (b .0 .0) (d .0 .0) (g .0 .0) = sym (ap (λ (x : Net × List ℕ). x .0) q) in
     let l : g .0 .1 ≡ rest = ap (λ (x : Net × List ℕ). x .1) q in
-    record
-      { is = a .0 .0; fs = b .0 .0; os = d .0 .0; gs = g .0 .0; t₁ = a .0 .1; t₂ = b .0 .1; t₃ = d .0 .1
-      ; inputs-read = a .1 .0; flops-read = b .1 .0; outputs-read = d .1 .0
-      ; gates-read = g .1 .0 ∙ ap (λ (u : List ℕ). Ok (g .0 .0, u)) l
-      ; net-is = n }
+    record {
+      is = a .0 .0;
+      fs = b .0 .0;
+      os = d .0 .0;
+      gs = g .0 .0;
+      t₁ = a .0 .1;
+      t₂ = b .0 .1;
+      t₃ = d .0 .1;
+      inputs-read = a .1 .0;
+      flops-read = b .1 .0;
+      outputs-read = d .1 .0;
+      gates-read = g .1 .0 ∙ ap (λ (u : List ℕ). Ok (g .0 .0, u)) l;
+      net-is = n;
+    }
 
 words-ok : {X S : Type 0} (f : X → S) (r : Result (X × List ℕ) ReadFault) (s : S) (u : List ℕ)
     → Ok (s, u) ≡ as-words f r → (x : X) × ((r ≡ Ok (x, u)) × (f x ≡ s))
@@ -95,10 +104,10 @@ sections-end c t t₁ t₂ t₃ t₄ ws fw ow gw (Ok x) a b d e w =
     let f = words-ok (λ fs. nexts-of fs ++ pins-of fs) (each (flop-line c) (counting 0 (c .flops)) t₁) fw t₂ b in
     let g = words-ok (λ gs. operand-words (operands-of gs)) (each (gate-line c) (counting 0 (c .gates)) t₃) gw t₄ e in
     let s : as-words layout (sections c t) ≡ Ok (layout (net-of c (f .0) ow (g .0)), t₄)
-        = ap (as-words layout) (sections-read c t t₁ t₂ t₃ t₄ (i .0) ow (f .0) (g .0) (i .1 .0) (f .1 .0) (sym d) (g .1 .0)) in
+    = ap (as-words layout) (sections-read c t t₁ t₂ t₃ t₄ (i .0) ow (f .0) (g .0) (i .1 .0) (f .1 .0) (sym d) (g .1 .0)) in
     let v : ws ≡ layout (net-of c (f .0) ow (g .0))
-        = w ∙ ap (λ (y : List ℕ). y ++ (fw ++ ow)) (sym (g .1 .1)) ∙ ap (λ (y : List ℕ). operand-words (operands-of (g .0)) ++ (y ++ ow)) (sym (f .1 .1))
-            ∙ ap (λ (y : List ℕ). operand-words (operands-of (g .0)) ++ y) (append-assoc (nexts-of (f .0)) (pins-of (f .0)) ow) in
+    = w ∙ ap (λ (y : List ℕ). y ++ (fw ++ ow)) (sym (g .1 .1)) ∙ ap (λ (y : List ℕ). operand-words (operands-of (g .0)) ++ (y ++ ow)) (sym (f .1 .1))
+    ∙ ap (λ (y : List ℕ). operand-words (operands-of (g .0)) ++ y) (append-assoc (nexts-of (f .0)) (pins-of (f .0)) ow) in
     ap (λ (y : List ℕ). Ok (y, t₄)) v ∙ sym s
 sections-end c t t₁ t₂ t₃ t₄ ws fw ow gw (Err x) a b d e w =
     let i = words-ok {S = Unit {0}} (λ _. tt) (each input-line (counting 0 (c .inputs)) t) tt t₁ a in
@@ -123,8 +132,8 @@ accepted-words lent t t₁ t₂ ws ws′ h a b d =
     let k : n .counts ≡ h .counts = ap (λ (m : Net). m .counts) (p .net-is) in
     let r : reading lent t ≡ Ok n = reading-from lent t t₁ t₂ h n a s₁ in
     let w : ws′ ≡ layout n ++ drop (room (n .counts)) ws
-        = sym (take-append-drop (room (h .counts)) ws′) ∙ ap (λ (y : List ℕ). y ++ drop (room (h .counts)) ws′) (sym (s .1 .1))
-            ∙ ap (λ (y : List ℕ). layout n ++ y) d ∙ ap (λ (c : Counts). layout n ++ drop (room c) ws) (sym k) in
+    = sym (take-append-drop (room (h .counts)) ws′) ∙ ap (λ (y : List ℕ). y ++ drop (room (h .counts)) ws′) (sym (s .1 .1))
+    ∙ ap (λ (y : List ℕ). layout n ++ y) d ∙ ap (λ (c : Counts). layout n ++ drop (room c) ws) (sym k) in
     (ap (λ (c : Counts). Ok c) (sym k) ∙ sym (ap answered r), w ∙ sym (ap (λ q. words-after q ws) r))
 
 -- a refused one, by line 1 or a later line: zeros

@@ -56,9 +56,10 @@ gate t =
 
 -- what ends a flop's line: byte 10 at once, or one number more and then byte 10
 abbrev pub third : List ℕ → Option (Option ℕ × List ℕ)
-third t = elim (byte 10 t)
-    [ Some p ↦ Some (None, p .1)
-    | None ↦ then (field t) (λ a u. then (byte 10 u) (λ _ v. Some (Some a, v))) ]
+third t = elim (byte 10 t) [
+  | Some p ↦ Some (None, p .1)
+  | None ↦ then (field t) (λ a u. then (byte 10 u) (λ _ v. Some (Some a, v)))
+]
 
 -- a flop's line: its own literal, its next literal, and a third number or none
 abbrev pub flop : List ℕ → Option (FlopLine × List ℕ)

@@ -96,14 +96,15 @@ abbrev pub last-line : ℕ
 last-line = 8961
 
 abbrev pub Placed : ℕ → ReadFault → Type 0
-Placed lent f = elim (f .refusal)
-    [ MalformedHeader ↦ f .line ≡ 1
-    | WrongCounts ↦ f .line ≡ 1
-    | FewWords ↦ (f .line ≡ 1) × (lent < most-words)
-    | MalformedLine ↦ (2 ≤ f .line) × (f .line ≤ last-line)
-    | WrongLiteral ↦ (2 ≤ f .line) × (f .line ≤ last-line)
-    | LargeLiteral ↦ (2 ≤ f .line) × (f .line ≤ last-line)
-    | WrongPin ↦ (2 ≤ f .line) × (f .line ≤ last-line) ]
+Placed lent f = elim (f .refusal) [
+  | MalformedHeader ↦ f .line ≡ 1
+  | WrongCounts ↦ f .line ≡ 1
+  | FewWords ↦ (f .line ≡ 1) × (lent < most-words)
+  | MalformedLine ↦ (2 ≤ f .line) × (f .line ≤ last-line)
+  | WrongLiteral ↦ (2 ≤ f .line) × (f .line ≤ last-line)
+  | LargeLiteral ↦ (2 ≤ f .line) × (f .line ≤ last-line)
+  | WrongPin ↦ (2 ≤ f .line) × (f .line ≤ last-line)
+]
 
 -- the laws of reading
 pub record Laws (lent : ℕ) (t : List ℕ) : Type 0 where

@@ -1,6 +1,5 @@
 ghost use Rattle.std.specs.declared.option.Option.the-variants.{Some};
 ghost use Rattle.netlists.specs.Told.{told-counts};
-
 use std::fmt;
 
 // How many inputs, flops, gates and outputs a circuit has.
@@ -16,7 +15,15 @@ pub impl fmt::Display for Counts as CountsDisplay {
     ghost shown = { λ c. Some (told-counts c) };
 
     fn fmt<W: fmt::Write>(&self, f: &mut fmt::Formatter<W>) -> fmt::Result {
-        let Counts { inputs, flops, gates, outputs } = *self;
-        write!(f, "inputs {inputs} flops {flops} gates {gates} outputs {outputs}")
+        let Counts {
+            inputs,
+            flops,
+            gates,
+            outputs,
+        } = *self;
+        write!(
+            f,
+            "inputs {inputs} flops {flops} gates {gates} outputs {outputs}"
+        )
     }
 }

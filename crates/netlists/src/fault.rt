@@ -42,4 +42,14 @@ impl Refusal {
             Refusal::FewWords => 7,
         }
     }
+
+    // The fault of a line that is refused so.
+    pub(crate) fn at(self, line: u32) -> ReadFault
+        ensures { λ r. ⌜ r ≡ record { refusal = self; line = line } ⌝ }
+    {
+        ReadFault {
+            refusal: self,
+            line,
+        }
+    }
 }

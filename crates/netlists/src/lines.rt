@@ -3,7 +3,6 @@ ghost use mathlib.Core.Path.{_≡_};
 ghost use Rattle.std.specs.declared.option.Option.the-variants.{None};
 ghost use Rattle.netlists.specs.Lines as spec;
 ghost use Rattle.netlists.specs.Beside.{beside};
-
 use crate::counts::Counts;
 
 // Line 1: the last net, and the counts.
@@ -147,6 +146,14 @@ impl<'a> Lines<'a> {
         let outputs = self.field()?;
         let gates = self.field()?;
         self.byte(b'\n')?;
-        Some(Header { last, counts: Counts { inputs, flops, gates, outputs } })
+        Some(Header {
+            last,
+            counts: Counts {
+                inputs,
+                flops,
+                gates,
+                outputs,
+            },
+        })
     }
 }

@@ -13,7 +13,6 @@ ghost use Rattle.netlists.specs.Net.{Bounded-counts, layout, operand-words, ro
 ghost use Rattle.netlists.specs.Beside.{besides, holding, as-words};
 ghost use Rattle.netlists.specs.Reading as spec;
 ghost use Rattle.netlists.specs.Written.{Laws};
-
 use crate::counts::Counts;
 use crate::fault::ReadFault;
 use crate::fault::Refusal;
@@ -38,14 +37,14 @@ fn header_line(lines: &mut Lines, lent: usize) -> Result<Header, ReadFault>
     ensures fits { λ r. ⌜ made r (λ h. Bounded-counts (h .counts) × (room (h .counts) ≤ lent)) ⌝ }
 {
     let Some(header) = lines.header() else {
-        return Err(ReadFault { refusal: Refusal::MalformedHeader, line: 1 });
+        return Err(Refusal::MalformedHeader.at(1));
     };
     if !counts_fit(&header) {
-        return Err(ReadFault { refusal: Refusal::WrongCounts, line: 1 });
+        return Err(Refusal::WrongCounts.at(1));
     }
     let counts = header.counts;
     if lent < (2 * counts.gates + 2 * counts.flops + counts.outputs) as usize {
-        return Err(ReadFault { refusal: Refusal::FewWords, line: 1 });
+        return Err(Refusal::FewWords.at(1));
     }
     Ok(header)
 }
@@ -56,10 +55,10 @@ fn input_line(lines: &mut Lines, i: u32) -> Result<u32, ReadFault>
 {
     let line = 2 + i;
     let Some(literal) = lines.single() else {
-        return Err(ReadFault { refusal: Refusal::MalformedLine, line });
+        return Err(Refusal::MalformedLine.at(line));
     };
     if literal != 2 * (1 + i) {
-        return Err(ReadFault { refusal: Refusal::WrongLiteral, line });
+        return Err(Refusal::WrongLiteral.at(line));
     }
     Ok(literal)
 }
@@ -89,9 +88,7 @@ fn pin(third: Option<u32>) -> u32
 {
     match third {
         None => 0,
-        Some(n) => {
-            if n <= 1 { n } else { 2 }
-        }
+        Some(n) => { if n <= 1 { n } else { 2 } }
     }
 }
 
@@ -102,16 +99,16 @@ fn flop_line(lines: &mut Lines, counts: Counts, j: u32) -> Result<FlopLine, Read
     let line = 2 + counts.inputs + j;
     let own = 2 * (1 + counts.inputs + j);
     let Some(flop) = lines.flop() else {
-        return Err(ReadFault { refusal: Refusal::MalformedLine, line });
+        return Err(Refusal::MalformedLine.at(line));
     };
     if flop.own != own {
-        return Err(ReadFault { refusal: Refusal::WrongLiteral, line });
+        return Err(Refusal::WrongLiteral.at(line));
     }
     if flop.next > 2 * (counts.inputs + counts.flops + counts.gates) + 1 {
-        return Err(ReadFault { refusal: Refusal::LargeLiteral, line });
+        return Err(Refusal::LargeLiteral.at(line));
     }
     if !third_fits(own, flop.third) {
-        return Err(ReadFault { refusal: Refusal::WrongPin, line });
+        return Err(Refusal::WrongPin.at(line));
     }
     Ok(flop)
 }
@@ -143,10 +140,10 @@ fn output_line(lines: &mut Lines, counts: Counts, j: u32) -> Result<u32, ReadFau
 {
     let line = 2 + counts.inputs + counts.flops + j;
     let Some(literal) = lines.single() else {
-        return Err(ReadFault { refusal: Refusal::MalformedLine, line });
+        return Err(Refusal::MalformedLine.at(line));
     };
     if literal > 2 * (counts.inputs + counts.flops + counts.gates) + 1 {
-        return Err(ReadFault { refusal: Refusal::LargeLiteral, line });
+        return Err(Refusal::LargeLiteral.at(line));
     }
     Ok(literal)
 }
@@ -169,13 +166,13 @@ fn gate_line(lines: &mut Lines, counts: Counts, i: u32) -> Result<GateLine, Read
     let line = 2 + counts.inputs + counts.flops + counts.outputs + i;
     let own = 2 * (1 + counts.inputs + counts.flops + i);
     let Some(gate) = lines.gate() else {
-        return Err(ReadFault { refusal: Refusal::MalformedLine, line });
+        return Err(Refusal::MalformedLine.at(line));
     };
     if gate.own != own {
-        return Err(ReadFault { refusal: Refusal::WrongLiteral, line });
+        return Err(Refusal::WrongLiteral.at(line));
     }
     if gate.left >= own || gate.right >= own {
-        return Err(ReadFault { refusal: Refusal::LargeLiteral, line });
+        return Err(Refusal::LargeLiteral.at(line));
     }
     Ok(gate)
 }

@@ -15,12 +15,12 @@ pub returns-in-Break-sections : need.returns-in-Break-sections
 returns-in-Break-sections c =
     let p = err-from-errBy (c .from-residual-in-Break-sections .result) (c .from-residual-in-Break-sections .ensures .1) in
     let z = later-refused _ (c .args .text .now) _ (c .args .words .now) (c .in-Continue-header .header) _
-        (c .in-Continue-header .ensures tt .line ∙ ap (header-line _) (c .new-lines .ensures)) (c .in-Break-sections .ensures tt .front) in
+    (c .in-Continue-header .ensures tt .line ∙ ap (header-line _) (c .new-lines .ensures)) (c .in-Break-sections .ensures tt .front) in
     rw (p .1, p .2) (record { answer = z .0; written = z .1; laws = laws _ _ })
 
 pub returns : need.returns
 returns c =
     let p = accepted-words _ (c .args .text .now) _ _ (c .args .words .now) (c .sections .last .words) (c .in-Continue-header .header)
-        (c .in-Continue-header .ensures tt .line ∙ ap (header-line _) (c .new-lines .ensures))
-        (c .in-Continue-sections .ensures tt .front) (c .in-Continue-sections .ensures tt .later refl) in
+    (c .in-Continue-header .ensures tt .line ∙ ap (header-line _) (c .new-lines .ensures))
+    (c .in-Continue-sections .ensures tt .front) (c .in-Continue-sections .ensures tt .later refl) in
     record { answer = p .0; written = p .1; laws = laws _ _ }

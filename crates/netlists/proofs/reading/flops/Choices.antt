@@ -11,5 +11,5 @@ use Rattle.netlists.proofs.reading.flops.Given as given
 abbrev pub Inv-loop-j : given.InvT-loop-j
 Inv-loop-j l =
     as-words side-by-side (each-with (flop-line (l .counts)) with-flop (counting (l .j) (l .count - l .j))
-        (take (l .j) (l .words), take (l .j) (drop (l .count) (l .words))) (l .lines .rest .now))
+    (take (l .j) (l .words), take (l .j) (drop (l .count) (l .words))) (l .lines .rest .now))
     ≡ as-words (λ fs. nexts-of fs ++ pins-of fs) (each (flop-line (l .counts)) (counting 0 (l .count)) (l .entry .lines .rest .now))

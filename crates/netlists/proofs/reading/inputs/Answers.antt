@@ -12,13 +12,13 @@ loop-i-holds c = each-starts {S = Unit {0}} input-line (λ s _. s) (λ _. tt) tt
 pub loop-i-again : need.loop-i-again
 loop-i-again c =
     each-more {S = Unit {0}} input-line (λ s _. s) (c .args .count) (c .loop-i .i) tt tt _ _ _ (omega arith)
-        (c .in-Continue-input-line .ensures tt) refl ∙ c .loop-i .inv
+    (c .in-Continue-input-line .ensures tt) refl ∙ c .loop-i .inv
 
 pub returns-in-Break-input-line : need.returns-in-Break-input-line
 returns-in-Break-input-line c =
     let p = err-from-errBy (c .from-residual .result) (c .from-residual .ensures .1) in
     rw (p .1, p .2) (each-stops {S = Unit {0}} input-line (λ s _. s) (c .args .count) (c .loop-i .i) tt _ _ (omega arith)
-        (c .in-Break-input-line .ensures tt) ∙ c .loop-i .inv)
+    (c .in-Break-input-line .ensures tt) ∙ c .loop-i .inv)
 
 pub returns : need.returns
 returns c = each-all {S = Unit {0}} input-line (λ s _. s) (c .args .count) (c .loop-i .i) tt _ (omega arith) ∙ c .loop-i .inv

@@ -16,13 +16,13 @@ loop-j-holds c =
 pub loop-j-again : need.loop-j-again
 loop-j-again c =
     each-more (output-line (c .args .counts)) with-output (c .args .counts .outputs) (c .loop-j .j) _ _ _ _ _ (omega arith)
-        (c .in-Continue-words .ensures tt) (take-more-set (c .loop-j .words) (c .loop-j .j) _ (omega arith)) ∙ c .loop-j .inv
+    (c .in-Continue-words .ensures tt) (take-more-set (c .loop-j .words) (c .loop-j .j) _ (omega arith)) ∙ c .loop-j .inv
 
 pub returns-in-Break-words : need.returns-in-Break-words
 returns-in-Break-words c =
     let p = err-from-errBy (c .from-residual .result) (c .from-residual .ensures .1) in
     rw (p .1, p .2) (each-stops (output-line (c .args .counts)) with-output (c .args .counts .outputs) (c .loop-j .j) _ _ _ (omega arith)
-        (c .in-Break-words .ensures tt) ∙ c .loop-j .inv)
+    (c .in-Break-words .ensures tt) ∙ c .loop-j .inv)
 
 pub returns : need.returns
 returns c =

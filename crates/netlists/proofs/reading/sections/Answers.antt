@@ -15,9 +15,10 @@ returns c =
     let lo : length (c .outputs .last .words) ≡ n - e = omega arith in
     let lg : length (c .gates .last .words) ≡ g - 0 = omega arith in
     record {
-    front = sections-end (c .args .counts) _ _ _ _ _ _ _ _ _ (c .gates .result)
-        (c .in-Continue-inputs .ensures tt) (c .in-Continue-flops .ensures tt) (c .in-Continue-outputs .ensures tt) (c .gates .ensures)
-        (laid-front (c .args .words .now) (c .flops .last .words) (c .outputs .last .words) (c .gates .last .words)
-            g e n (e - g) (n - e) (g - 0) refl refl (omega arith) (omega arith) (omega arith) (omega arith) lf lo lg);
-    later = λ ok. laid-later (c .args .words .now) (c .flops .last .words) (c .outputs .last .words) (c .gates .last .words)
-        g e n (e - g) (n - e) (g - 0) refl refl (omega arith) (omega arith) (omega arith) (omega arith) lf lo lg }
+      front = sections-end (c .args .counts) _ _ _ _ _ _ _ _ _ (c .gates .result)
+          (c .in-Continue-inputs .ensures tt) (c .in-Continue-flops .ensures tt) (c .in-Continue-outputs .ensures tt) (c .gates .ensures)
+          (laid-front (c .args .words .now) (c .flops .last .words) (c .outputs .last .words) (c .gates .last .words)
+          g e n (e - g) (n - e) (g - 0) refl refl (omega arith) (omega arith) (omega arith) (omega arith) lf lo lg);
+      later = λ ok. laid-later (c .args .words .now) (c .flops .last .words) (c .outputs .last .words) (c .gates .last .words)
+          g e n (e - g) (n - e) (g - 0) refl refl (omega arith) (omega arith) (omega arith) (omega arith) lf lo lg;
+    }
