@@ -9,10 +9,11 @@ use lib.ListN.{length}
 use Rattle.std.specs.Written.{decimal}
 use Rattle.std.specs.declared.result.Result.{Result}
 use Rattle.std.specs.declared.result.Result.the-variants.{Ok, Err}
+use Rattle.netlists.specs.declared.counts.Counts.{Counts}
 use Rattle.netlists.specs.declared.fault.Refusal.the-variants.{FewWords}
 use Rattle.netlists.specs.declared.fault.ReadFault.{ReadFault}
-use Rattle.netlists.specs.Net.{Net}
-use Rattle.netlists.specs.Reading.{reading, words-after}
+use Rattle.netlists.specs.Net.{most-words}
+use Rattle.netlists.specs.Reading.{reading, answered}
 use Rattle.netlists.specs.Refusals.{number}
 use Rattle.netlists.specs.Told.{told-counts}
 use Rattle.checker.specs.declared.report.Netlist.{Netlist}
@@ -20,32 +21,27 @@ use Rattle.checker.specs.declared.report.Netlist.the-variants.{Original, Gated
 use Rattle.checker.specs.declared.report.Report.{Report}
 use Rattle.checker.specs.declared.report.Report.the-variants.{TooLong, Refused, Read}
 
--- the most bytes that a file may have, and the words lent for a netlist: no bounded circuit takes more
+-- the most bytes that a file may have
 abbrev pub most-bytes : ℕ
 most-bytes = 65536
 
-abbrev pub lent-words : ℕ
-lent-words = 17152
+abbrev pub too-long : List ℕ → List ℕ → Bool
+too-long original gated = ltb most-bytes (length original) || ltb most-bytes (length gated)
 
 -- the original is told before the gated netlist
-abbrev pub of-readings : Result Net ReadFault → Result Net ReadFault → Report
-of-readings (Err f) gated = Refused Original f
-of-readings (Ok a) (Err f) = Refused Gated f
-of-readings (Ok a) (Ok b) = Read (a .counts) (b .counts)
-
--- the gated netlist is not read where the original is refused
-abbrev pub gated-after : Result Net ReadFault → Result Net ReadFault → List ℕ → List ℕ
-gated-after (Err f) gated ws = ws
-gated-after (Ok a) gated ws = words-after gated ws
+abbrev pub of-answers : Result Counts ReadFault → Result Counts ReadFault → Report
+of-answers (Err f) gated = Refused Original f
+of-answers (Ok a) (Err f) = Refused Gated f
+of-answers (Ok a) (Ok b) = Read a b
 
 abbrev pub report : List ℕ → List ℕ → Report
 report original gated =
-    cond (ltb most-bytes (length original) || ltb most-bytes (length gated)) TooLong
-    (of-readings (reading lent-words original) (reading lent-words gated))
+    cond (too-long original gated) TooLong
+    (of-answers (answered (reading most-words original)) (answered (reading most-words gated)))
 
 -- no text is refused for want of words
 abbrev pub Words-suffice : Type 0
-Words-suffice = (t : List ℕ) (f : ReadFault) → reading lent-words t ≡ Err f → f .refusal ≡ FewWords → ⊥
+Words-suffice = (t : List ℕ) (f : ReadFault) → reading most-words t ≡ Err f → f .refusal ≡ FewWords → ⊥
 
 -- both netlists are read
 abbrev pub both-read : Report → Bool

@@ -1,12 +1,15 @@
 // What the checker reports of the two netlists of a folder.
 ghost use mathlib.Core.Path.{_≡_};
 ghost use lib.ListN.{length};
+ghost use Rattle.std.specs.Of.Vec.{vec-len};
 ghost use Rattle.std.specs.Vec.{made};
 ghost use Rattle.std.specs.declared.option.Option.the-variants.{Some};
-ghost use Rattle.netlists.specs.Reading.{reading, words-after};
+ghost use Rattle.netlists.specs.Net.{most-words};
+ghost use Rattle.netlists.specs.Reading.{reading, answered, words-after};
 ghost use Rattle.checker.specs.Report as spec;
 use netlists::counts::Counts;
 use netlists::counts::CountsDisplay;
+use netlists::counts::MOST_WORDS;
 use netlists::fault::ReadFault;
 use netlists::reading::read;
 use std::alloc::AllocError;
@@ -15,9 +18,6 @@ use std::fmt;
 
 // The most bytes that a file may have.
 pub const MOST_BYTES: usize = 65_536;
-
-// The words lent for a netlist: two for each of 8,192 gates and of 256 flops, one for each of 256 outputs.
-const LENT_WORDS: usize = 17_152;
 
 #[derive(Clone, Copy)]
 pub enum Netlist {
@@ -35,7 +35,32 @@ pub enum Report {
     Read(Counts, Counts),
 }
 
+fn too_long(original: &[u8], gated: &[u8]) -> bool
+    ensures { λ r. ⌜ r ≡ spec.too-long (now (original .entry)) (now (gated .entry)) ⌝ }
+{
+    original.len() > MOST_BYTES || gated.len() > MOST_BYTES
+}
+
+// Words enough for every netlist.
+fn netlist_words(heap: Global) -> Result<Vec<u32>, AllocError>
+    ensures len { λ r. ⌜ made r (λ v. vec-len v ≡ most-words) ⌝ }
+    ensures enough { λ _. ⌜ spec.Words-suffice ⌝ }
+{
+    vec![in heap; 0; MOST_WORDS]
+}
+
 impl Report {
+    // What is told of two readings, of the original first.
+    fn of_answers(original: Result<Counts, ReadFault>, gated: Result<Counts, ReadFault>) -> Report
+        ensures { λ r. ⌜ r ≡ spec.of-answers original gated ⌝ }
+    {
+        match (original, gated) {
+            (Err(fault), _) => Report::Refused(Netlist::Original, fault),
+            (Ok(_), Err(fault)) => Report::Refused(Netlist::Gated, fault),
+            (Ok(a), Ok(b)) => Report::Read(a, b),
+        }
+    }
+
     // Reads the two netlists, each into its lent words.
     fn of_texts(
         original: &[u8],
@@ -43,30 +68,24 @@ impl Report {
         original_words: &mut [u32],
         gated_words: &mut [u32],
     ) -> Report
-        ensures report { λ r. ⌜ r ≡ spec.of-readings (reading (length (now («original_words» .entry))) (now (original .entry))) (reading (length (now («gated_words» .entry))) (now (gated .entry))) ⌝ }
+        ensures report { λ r. ⌜ r ≡ spec.of-answers (answered (reading (length (now («original_words» .entry))) (now (original .entry)))) (answered (reading (length (now («gated_words» .entry))) (now (gated .entry)))) ⌝ }
         ensures original_after { λ _. ⌜ now («original_words» .exit) ≡ words-after (reading (length (now («original_words» .entry))) (now (original .entry))) (now («original_words» .entry)) ⌝ }
-        ensures gated_after { λ _. ⌜ now («gated_words» .exit) ≡ spec.gated-after (reading (length (now («original_words» .entry))) (now (original .entry))) (reading (length (now («gated_words» .entry))) (now (gated .entry))) (now («gated_words» .entry)) ⌝ }
+        ensures gated_after { λ _. ⌜ now («gated_words» .exit) ≡ words-after (reading (length (now («gated_words» .entry))) (now (gated .entry))) (now («gated_words» .entry)) ⌝ }
     {
-        let a = match read(original, original_words) {
-            Ok(counts) => counts,
-            Err(fault) => return Report::Refused(Netlist::Original, fault),
-        };
-        match read(gated, gated_words) {
-            Ok(b) => Report::Read(a, b),
-            Err(fault) => Report::Refused(Netlist::Gated, fault),
-        }
+        let a = read(original, original_words);
+        let b = read(gated, gated_words);
+        Report::of_answers(a, b)
     }
 
     // Reads the two netlists of a folder.
     pub fn of(heap: Global, original: &[u8], gated: &[u8]) -> Result<Report, AllocError>
-        ensures report { λ r. ⌜ made r (λ x. x ≡ spec.report (now (original .entry)) (now (gated .entry))) ⌝ }
-        ensures enough { λ _. ⌜ spec.Words-suffice ⌝ }
+        ensures { λ r. ⌜ made r (λ x. x ≡ spec.report (now (original .entry)) (now (gated .entry))) ⌝ }
     {
-        if original.len() > MOST_BYTES || gated.len() > MOST_BYTES {
+        if too_long(original, gated) {
             return Ok(Report::TooLong);
         }
-        let mut original_words = vec![in heap; 0u32; LENT_WORDS]?;
-        let mut gated_words = vec![in heap; 0u32; LENT_WORDS]?;
+        let mut original_words = netlist_words(heap)?;
+        let mut gated_words = netlist_words(heap)?;
         Ok(Report::of_texts(original, gated, &mut original_words, &mut gated_words))
     }
 

@@ -11,9 +11,9 @@ abbrev pub beside : {X : Type 0} → List ℕ → Option X → Option (X × List
 beside t None = None
 beside t (Some x) = Some (x, t)
 
-abbrev pub besides : {X F : Type 0} → List ℕ → Result X F → Result (X × List ℕ) F
-besides t (Err f) = Err f
-besides t (Ok x) = Ok (x, t)
+abbrev pub beside-result : {X F : Type 0} → List ℕ → Result X F → Result (X × List ℕ) F
+beside-result t (Err f) = Err f
+beside-result t (Ok x) = Ok (x, t)
 
 -- what was written in the place of an answer that says nothing, beside what is left of the text
 abbrev pub holding : {S X F : Type 0} → S → List ℕ → Result X F → Result (S × List ℕ) F

@@ -82,6 +82,10 @@ layout net = operand-words (net .operands) ++ (net .nexts ++ (net .pins ++ net .
 abbrev pub room : Counts → ℕ
 room c = 2 * c .gates + 2 * c .flops + c .outputs
 
+-- what suffices for every bounded circuit
+abbrev pub most-words : ℕ
+most-words = 17152
+
 -- One cycle. The nets hold bits here; the definitions that name a type A serve for whatever has an inverse, `turn`.
 
 -- the first n of xs, with `off` for those that are missing

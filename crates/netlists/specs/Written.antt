@@ -19,7 +19,7 @@ use Rattle.netlists.specs.declared.lines.Header.{Header}
 use Rattle.netlists.specs.declared.lines.FlopLine.{FlopLine}
 use Rattle.netlists.specs.declared.lines.GateLine.{GateLine}
 use Rattle.netlists.specs.Lines.{header, single, flop, gate}
-use Rattle.netlists.specs.Net.{Net, Bounded, Cycles, last-net, input-literal, flop-literal, gate-literal, gate-at, next-at, pin-at, out-at, room}
+use Rattle.netlists.specs.Net.{Net, Bounded, Cycles, last-net, input-literal, flop-literal, gate-literal, gate-at, next-at, pin-at, out-at, room, most-words}
 use Rattle.netlists.specs.Reading.{reading}
 
 -- numbers, each after a space, and byte 10; a line of numbers
@@ -89,9 +89,6 @@ Accepts-written lent t = (net : Net) → reading lent t ≡ Ok net → Bounded n
 
 -- where a refusal can come from: line 1 brings on its own, each later line up to the last possible one the others,
 -- and too few words are told only to a lender of fewer than the largest circuit takes
-abbrev pub most-words : ℕ
-most-words = 17152
-
 abbrev pub last-line : ℕ
 last-line = 8961
 

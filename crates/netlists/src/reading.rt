@@ -10,10 +10,14 @@ ghost use Rattle.std.specs.Results.{isOk};
 ghost use Rattle.std.specs.Vec.{made};
 ghost use Rattle.std.specs.declared.result.Result.the-variants.{Ok, Err};
 ghost use Rattle.netlists.specs.Net.{Bounded-counts, layout, operand-words, room};
-ghost use Rattle.netlists.specs.Beside.{besides, holding, as-words};
+ghost use Rattle.netlists.specs.Beside.{beside-result, holding, as-words};
 ghost use Rattle.netlists.specs.Reading as spec;
 ghost use Rattle.netlists.specs.Written.{Laws};
 use crate::counts::Counts;
+use crate::counts::MOST_FLOPS;
+use crate::counts::MOST_GATES;
+use crate::counts::MOST_INPUTS;
+use crate::counts::MOST_OUTPUTS;
 use crate::fault::ReadFault;
 use crate::fault::Refusal;
 use crate::lines::FlopLine;
@@ -24,16 +28,17 @@ use crate::lines::Lines;
 fn counts_fit(h: &Header) -> bool
     ensures { λ r. ⌜ r ≡ spec.counts-fit (now (h .entry)) ⌝ }
 {
-    h.counts.inputs <= 256
-        && h.counts.flops <= 256
-        && h.counts.gates <= 8192
-        && h.counts.outputs >= 1
-        && h.counts.outputs <= 256
-        && h.last == h.counts.inputs + h.counts.flops + h.counts.gates
+    let counts = h.counts;
+    counts.inputs <= MOST_INPUTS
+        && counts.flops <= MOST_FLOPS
+        && counts.gates <= MOST_GATES
+        && counts.outputs >= 1
+        && counts.outputs <= MOST_OUTPUTS
+        && h.last == counts.inputs + counts.flops + counts.gates
 }
 
 fn header_line(lines: &mut Lines, lent: usize) -> Result<Header, ReadFault>
-    ensures line { λ r. ⌜ besides (now (now (lines .exit) .rest)) r ≡ spec.header-line lent (now (now (lines .entry) .rest)) ⌝ }
+    ensures line { λ r. ⌜ beside-result (now (now (lines .exit) .rest)) r ≡ spec.header-line lent (now (now (lines .entry) .rest)) ⌝ }
     ensures fits { λ r. ⌜ made r (λ h. Bounded-counts (h .counts) × (room (h .counts) ≤ lent)) ⌝ }
 {
     let Some(header) = lines.header() else {
@@ -51,7 +56,7 @@ fn header_line(lines: &mut Lines, lent: usize) -> Result<Header, ReadFault>
 
 fn input_line(lines: &mut Lines, i: u32) -> Result<u32, ReadFault>
     requires { ⌜ i < 256 ⌝ }
-    ensures { λ r. ⌜ besides (now (now (lines .exit) .rest)) r ≡ spec.input-line i (now (now (lines .entry) .rest)) ⌝ }
+    ensures { λ r. ⌜ beside-result (now (now (lines .exit) .rest)) r ≡ spec.input-line i (now (now (lines .entry) .rest)) ⌝ }
 {
     let line = 2 + i;
     let Some(literal) = lines.single() else {
@@ -66,7 +71,7 @@ fn input_line(lines: &mut Lines, i: u32) -> Result<u32, ReadFault>
 // Reads the inputs' lines, of which no word is kept.
 fn inputs(lines: &mut Lines, count: u32) -> Result<(), ReadFault>
     requires { ⌜ count ≤ 256 ⌝ }
-    ensures { λ r. ⌜ besides (now (now (lines .exit) .rest)) r ≡ as-words (λ _. tt) (spec.each spec.input-line (counting 0 count) (now (now (lines .entry) .rest))) ⌝ }
+    ensures { λ r. ⌜ beside-result (now (now (lines .exit) .rest)) r ≡ as-words (λ _. tt) (spec.each spec.input-line (counting 0 count) (now (now (lines .entry) .rest))) ⌝ }
 {
     for i in 0..count {
         input_line(lines, i)?;
@@ -94,7 +99,7 @@ fn pin(third: Option<u32>) -> u32
 
 fn flop_line(lines: &mut Lines, counts: Counts, j: u32) -> Result<FlopLine, ReadFault>
     requires { ⌜ Bounded-counts counts ⌝ ∗ ⌜ j < 256 ⌝ }
-    ensures { λ r. ⌜ besides (now (now (lines .exit) .rest)) r ≡ spec.flop-line counts j (now (now (lines .entry) .rest)) ⌝ }
+    ensures { λ r. ⌜ beside-result (now (now (lines .exit) .rest)) r ≡ spec.flop-line counts j (now (now (lines .entry) .rest)) ⌝ }
 {
     let line = 2 + counts.inputs + j;
     let own = 2 * (1 + counts.inputs + j);
@@ -104,7 +109,7 @@ fn flop_line(lines: &mut Lines, counts: Counts, j: u32) -> Result<FlopLine, Read
     if flop.own != own {
         return Err(Refusal::WrongLiteral.at(line));
     }
-    if flop.next > 2 * (counts.inputs + counts.flops + counts.gates) + 1 {
+    if flop.next > counts.largest_literal() {
         return Err(Refusal::LargeLiteral.at(line));
     }
     if !third_fits(own, flop.third) {
@@ -136,13 +141,13 @@ fn flops(lines: &mut Lines, counts: Counts, words: &mut [u32]) -> Result<(), Rea
 
 fn output_line(lines: &mut Lines, counts: Counts, j: u32) -> Result<u32, ReadFault>
     requires { ⌜ Bounded-counts counts ⌝ ∗ ⌜ j < 256 ⌝ }
-    ensures { λ r. ⌜ besides (now (now (lines .exit) .rest)) r ≡ spec.output-line counts j (now (now (lines .entry) .rest)) ⌝ }
+    ensures { λ r. ⌜ beside-result (now (now (lines .exit) .rest)) r ≡ spec.output-line counts j (now (now (lines .entry) .rest)) ⌝ }
 {
     let line = 2 + counts.inputs + counts.flops + j;
     let Some(literal) = lines.single() else {
         return Err(Refusal::MalformedLine.at(line));
     };
-    if literal > 2 * (counts.inputs + counts.flops + counts.gates) + 1 {
+    if literal > counts.largest_literal() {
         return Err(Refusal::LargeLiteral.at(line));
     }
     Ok(literal)
@@ -161,7 +166,7 @@ fn outputs(lines: &mut Lines, counts: Counts, words: &mut [u32]) -> Result<(), R
 
 fn gate_line(lines: &mut Lines, counts: Counts, i: u32) -> Result<GateLine, ReadFault>
     requires { ⌜ Bounded-counts counts ⌝ ∗ ⌜ i < 8192 ⌝ }
-    ensures { λ r. ⌜ besides (now (now (lines .exit) .rest)) r ≡ spec.gate-line counts i (now (now (lines .entry) .rest)) ⌝ }
+    ensures { λ r. ⌜ beside-result (now (now (lines .exit) .rest)) r ≡ spec.gate-line counts i (now (now (lines .entry) .rest)) ⌝ }
 {
     let line = 2 + counts.inputs + counts.flops + counts.outputs + i;
     let own = 2 * (1 + counts.inputs + counts.flops + i);
