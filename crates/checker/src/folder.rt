@@ -9,7 +9,7 @@ use std::io::Read;
 use std::path::Path;
 
 // The folder that the one argument names; without one, the current directory.
-pub fn folder_named(rt: &LibcRuntime) -> Result<String, AnyError> {
+pub(crate) fn folder_named(rt: &LibcRuntime) -> Result<String, AnyError> {
     let mut args = env::args(rt)?;
     let _program = args.next();
     let folder = args.next();
@@ -31,7 +31,11 @@ fn first_bytes(rt: &LibcRuntime, path: Path<'_>) -> io::Result<Vec<u8>> {
 }
 
 // The same of a file of the folder, which is empty where it is missing.
-pub fn read_file(rt: &LibcRuntime, folder: Path<'_>, name: &str) -> Result<Vec<u8>, AnyError> {
+pub(crate) fn read_file(
+    rt: &LibcRuntime,
+    folder: Path<'_>,
+    name: &str,
+) -> Result<Vec<u8>, AnyError> {
     let path = folder.join(rt.alloc(), name)?;
     match first_bytes(rt, path.as_path()) {
         Ok(bytes) => Ok(bytes),

@@ -1,11 +1,11 @@
 -- An accepted text begins with a written form of the circuit that it is read as.
-use mathlib.Core.Path.{_≡_, refl, sym, ap, subst, _∙_}
-use mathlib.Core.List.{List, [], _∷_, _++_, map, append-assoc}
-use mathlib.Core.Bool.{Bool, true, false, not, _||_, cond}
-use Prim.Native.Nat.{ℕ, zero, suc, _+_, _*_, _^_, _≤_, _<_}
+use mathlib.Core.Path.{_≡_, sym, ap, subst, _∙_}
+use mathlib.Core.List.{List, [], _∷_, _++_, append-assoc}
+use mathlib.Core.Bool.{Bool, true, not}
+use Prim.Native.Nat.{ℕ, zero, suc, _+_, _≤_, _<_}
 use native.Mathlib.Omega.{arith}
 use lib.Chars.{codes}
-use lib.Dec.{eqb, ltb, leb}
+use lib.Dec.{leb}
 use lib.ListN.{length, getD}
 use Rattle.std.proofs.shelf.Elements.{all-from-getD, all-map}
 use Rattle.std.proofs.shelf.Lists.{getD-map, length-map}
@@ -14,20 +14,18 @@ use Rattle.std.specs.Iters.{counting}
 use Rattle.std.specs.Joined.{joined}
 use Rattle.std.specs.Options.{isSome}
 use Rattle.std.specs.Vec.{listOf}
-use Rattle.std.specs.shelf.Lists.{All}
-use Rattle.std.specs.declared.option.Option.{Option}
-use Rattle.std.specs.declared.option.Option.the-variants.{Some, None}
+use Rattle.std.specs.declared.option.Option.the-variants.{None}
 use Rattle.std.specs.declared.result.Result.{Result}
-use Rattle.std.specs.declared.result.Result.the-variants.{Ok, Err}
+use Rattle.std.specs.declared.result.Result.the-variants.{Ok}
 use Rattle.netlists.specs.declared.fault.ReadFault.{ReadFault}
 use Rattle.netlists.specs.declared.counts.Counts.{Counts}
 use Rattle.netlists.specs.declared.lines.Header.{Header}
 use Rattle.netlists.specs.declared.lines.FlopLine.{FlopLine}
 use Rattle.netlists.specs.declared.lines.GateLine.{GateLine}
 use Rattle.netlists.specs.Lines.{header, single, flop, gate}
-use Rattle.netlists.specs.Net.{Net, Bounded, Bounded-counts, last-net, top, input-literal, flop-literal, gate-literal, gate-at, next-at, pin-at, out-at, room}
-use Rattle.netlists.specs.Reading.{each, onward, input-line, flop-line, output-line, gate-line, header-line, nexts-of, pins-of, operands-of, net-of, sections, reading, pin, is-third, counts-fit}
-use Rattle.netlists.specs.Written.{line, header-text, input-text, flop-text, output-text, gate-text, third-number, text, Begins-with, Accepts-written}
+use Rattle.netlists.specs.Net.{Net, Bounded, Bounded-counts, top, input-literal, flop-literal, gate-literal, gate-at, next-at, pin-at, room}
+use Rattle.netlists.specs.Reading.{each, input-line, flop-line, output-line, gate-line, header-line, net-of, sections, pin, is-third}
+use Rattle.netlists.specs.Written.{line, header-text, input-text, flop-text, output-text, gate-text, third-number, text, Accepts-written}
 use Rattle.netlists.proofs.Checks.{judged-parts, counts-fit-parts, third-back, pin-in}
 use Rattle.netlists.proofs.LineForms.{lines-exact}
 use Rattle.netlists.proofs.Steps.{onward-parts, same-ok, Parts, sections-parts}

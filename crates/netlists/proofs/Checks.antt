@@ -1,19 +1,19 @@
 -- A line that is read and passes its checks is accepted, and an accepted line was read and passed them.
 use mathlib.Core.Path.{_≡_, refl, sym, ap, _∙_}
 use mathlib.Core.List.{List, [], _∷_}
-use mathlib.Core.Bool.{Bool, true, false, not, _&&_, _||_, cond}
-use mathlib.Core.Logic.{_⊎_, inl, inr}
-use Prim.Native.Nat.{ℕ, zero, suc, _+_, _*_, _^_, _≤_, _<_}
+use mathlib.Core.Bool.{Bool, true, false, not, cond}
+use mathlib.Core.Logic.{inl, inr}
+use Prim.Native.Nat.{ℕ, zero, suc, _≤_}
 use native.Mathlib.Omega.{arith}
-use lib.Dec.{eqb, ltb, leb}
-use Rattle.std.proofs.shelf.Tests.{cases-bool, and-parts, and-from, eq-eqb, le-leb, lt-leb, eqb-true, leb-true, or-cases, or-right, both-ways}
+use lib.Dec.{eqb, leb}
+use Rattle.std.proofs.shelf.Tests.{cases-bool, and-parts, eq-eqb, le-leb, lt-leb, eqb-true, leb-true, or-cases, or-right, both-ways}
 use Rattle.std.specs.Options.{isSome}
 use Rattle.std.specs.Vec.{listOf}
 use Rattle.std.specs.shelf.Lists.{All}
 use Rattle.std.specs.declared.option.Option.{Option}
 use Rattle.std.specs.declared.option.Option.the-variants.{Some, None}
 use Rattle.std.specs.declared.result.Result.{Result}
-use Rattle.std.specs.declared.result.Result.the-variants.{Ok, Err}
+use Rattle.std.specs.declared.result.Result.the-variants.{Ok}
 use Rattle.netlists.specs.declared.fault.Refusal.{Refusal}
 use Rattle.netlists.specs.declared.fault.ReadFault.{ReadFault}
 use Rattle.netlists.specs.declared.lines.Header.{Header}

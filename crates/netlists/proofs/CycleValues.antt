@@ -1,13 +1,13 @@
 -- What the values of a cycle say of each net.
 use mathlib.Core.Path.{_≡_, refl, sym, ap, ap₂, subst, _∙_}
-use mathlib.Core.List.{List, [], _∷_, _++_, map}
-use mathlib.Core.Bool.{Bool, true, false, not, _&&_}
-use Prim.Native.Nat.{ℕ, zero, suc, _+_, _-_, _*_, _/_, _%_, _≤_, _<_}
+use mathlib.Core.List.{List, [], _∷_, _++_}
+use mathlib.Core.Bool.{Bool, false, not, _&&_}
+use Prim.Native.Nat.{ℕ, zero, suc, _+_, _-_, _*_, _/_, _%_, _<_}
 use native.Mathlib.Omega.{arith}
 use lib.ListN.{length, getD}
 use Rattle.std.proofs.shelf.Counted.{length-map-counting, getD-map-counting}
 use Rattle.std.proofs.shelf.Lists.{append-assoc, getD-append-left, getD-append-right, getD-append-add, length-append, length-map, length-push}
-use Rattle.netlists.specs.Net.{Net, Bounded, first, turned, before, value, gate-values, values, cycle-outs, cycle-nexts, Cycle, Cycles, last-net, gate-at, gate-literal}
+use Rattle.netlists.specs.Net.{Net, Bounded, first, turned, before, value, gate-values, values, Cycles}
 
 -- a literal of a net that stands in the front has its value there
 front-value : (nets more : List Bool) (x : ℕ) → x / 2 < length nets → value nets x ≡ value (nets ++ more) x

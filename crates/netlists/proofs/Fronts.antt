@@ -1,16 +1,15 @@
 -- the readers at a text that has a first byte, as the code takes it apart
-use mathlib.Core.Path.{_≡_, refl, sym, ap, _∙_}
-use mathlib.Core.List.{List, [], _∷_}
-use mathlib.Core.Bool.{true, false, _&&_, cond}
-use Prim.Native.Nat.{ℕ, _+_, _-_, _*_, _^_, _≤_, _<_}
+use mathlib.Core.Path.{_≡_, sym, ap, _∙_}
+use mathlib.Core.List.{List}
+use mathlib.Core.Bool.{true}
+use Prim.Native.Nat.{ℕ, _-_, _≤_}
 use native.Mathlib.Omega.{arith}
-use lib.Dec.{eqb, ltb, leb}
+use lib.Dec.{eqb, leb}
 use lib.ListN.{length, getD, take, drop}
 use Rattle.std.proofs.shelf.Parts.{first-rest}
 use Rattle.std.proofs.shelf.Tests.{eq-eqb, le-leb, and-from, cond-true}
-use Rattle.std.specs.declared.option.Option.{Option}
 use Rattle.std.specs.declared.option.Option.the-variants.{Some, None}
-use Rattle.netlists.specs.Lines.{byte, digit, digits, is-digit}
+use Rattle.netlists.specs.Lines.{byte, digit, is-digit}
 
 -- the text without its first byte, as `[first, rest @ ..]` has it
 abbrev pub rest : List ℕ → List ℕ

@@ -1,8 +1,8 @@
 -- Numbers in decimal: what is written is read, and what is read was written.
 use mathlib.Core.Path.{_≡_, refl, sym, ap, _∙_}
 use mathlib.Core.List.{List, [], _∷_, _++_, append-assoc}
-use mathlib.Core.Bool.{Bool, true, false, _&&_, cond}
-use mathlib.Core.Logic.{_⊎_, inl, inr}
+use mathlib.Core.Bool.{true, false, cond}
+use mathlib.Core.Logic.{inl, inr}
 use Prim.Native.Nat.{ℕ, zero, suc, _+_, _-_, _*_, _/_, _%_, _^_, _≤_, _<_}
 use native.Mathlib.Omega.{arith}
 use lib.Dec.{eqb, ltb, leb}
@@ -28,7 +28,7 @@ next-digit n h t =
     let b : ltb n (2 ^ 32) ≡ true = lt-ltb n (2 ^ 32) h in
     rw (d, e, b) refl
 
--- a numeral's digits bring the scan to the numeral, whatever follows
+-- a number's digits bring the scan to the number, whatever follows
 scanned : (n : ℕ) → 0 < n → n < 2 ^ 32 → (t : List ℕ) → numeral (decimal n ++ t) ≡ digits n t
 scanned n p h t =
     decimal-by-steps (λ m ds. 0 < m → m < 2 ^ 32 → (u : List ℕ) → numeral (ds ++ u) ≡ digits m u)

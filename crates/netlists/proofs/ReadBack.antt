@@ -1,30 +1,27 @@
 -- Each written form of a bounded circuit is read as that circuit.
-use mathlib.Core.Path.{_≡_, refl, sym, ap, subst, _∙_}
+use mathlib.Core.Path.{_≡_, refl, sym, ap, _∙_}
 use mathlib.Core.List.{List, [], _∷_, _++_, map, append-assoc}
-use mathlib.Core.Bool.{Bool, true, false, not, _||_, cond}
-use Prim.Native.Nat.{ℕ, zero, suc, _+_, _*_, _^_, _≤_, _<_}
+use mathlib.Core.Bool.{Bool, true, false}
+use Prim.Native.Nat.{ℕ, zero, suc, _+_, _^_, _≤_, _<_}
 use native.Mathlib.Omega.{arith}
-use lib.Dec.{eqb, ltb, leb}
 use lib.ListN.{length, getD}
 use Rattle.std.proofs.shelf.Counted.{fill-by-all}
 use Rattle.std.proofs.shelf.Elements.{all-getD}
-use Rattle.std.proofs.shelf.Tests.{eq-eqb, le-leb, lt-leb, le-ltb, or-from}
+use Rattle.std.proofs.shelf.Tests.{eq-eqb, lt-leb, le-ltb}
 use Rattle.std.specs.Iters.{counting}
 use Rattle.std.specs.Joined.{joined}
 use Rattle.std.specs.Vec.{listOf}
 use Rattle.std.specs.shelf.Lists.{All}
-use Rattle.std.specs.declared.option.Option.{Option}
-use Rattle.std.specs.declared.option.Option.the-variants.{Some, None}
 use Rattle.std.specs.declared.result.Result.{Result}
-use Rattle.std.specs.declared.result.Result.the-variants.{Ok, Err}
+use Rattle.std.specs.declared.result.Result.the-variants.{Ok}
 use Rattle.netlists.specs.declared.fault.ReadFault.{ReadFault}
 use Rattle.netlists.specs.declared.counts.Counts.{Counts}
 use Rattle.netlists.specs.declared.lines.Header.{Header}
 use Rattle.netlists.specs.declared.lines.FlopLine.{FlopLine}
 use Rattle.netlists.specs.declared.lines.GateLine.{GateLine}
-use Rattle.netlists.specs.Net.{Net, Bounded, Bounded-counts, last-net, top, input-literal, flop-literal, gate-literal, gate-at, next-at, pin-at, out-at, room}
-use Rattle.netlists.specs.Reading.{each, onward, input-line, flop-line, output-line, gate-line, header-line, nexts-of, pins-of, operands-of, net-of, sections, reading, pin, counts-fit}
-use Rattle.netlists.specs.Written.{line, header-text, input-text, flop-text, output-text, gate-text, third-number, text, Reads-back}
+use Rattle.netlists.specs.Net.{Net, Bounded, last-net, top, input-literal, flop-literal, gate-literal, gate-at, next-at, pin-at, out-at, room}
+use Rattle.netlists.specs.Reading.{each, onward, input-line, flop-line, output-line, gate-line, header-line, net-of, sections, pin}
+use Rattle.netlists.specs.Written.{line, header-text, input-text, flop-text, output-text, gate-text, text, Reads-back}
 use Rattle.netlists.proofs.Checks.{passed, counts-fit-from, third-of, third-is, third-fits, third-pin}
 use Rattle.netlists.proofs.LineForms.{lines-exact}
 use Rattle.netlists.proofs.Steps.{sections-read, reading-from}

@@ -1,13 +1,10 @@
 -- Which line brings on which refusal.
-use mathlib.Core.Path.{_≡_, refl, sym, ap, subst, _∙_}
+use mathlib.Core.Path.{_≡_, refl, sym, subst}
 use mathlib.Core.List.{List, [], _∷_}
-use mathlib.Core.Bool.{Bool, true, false, not, _||_, cond}
-use mathlib.Core.Logic.{_⊎_, inl, inr}
-use Prim.Native.Nat.{ℕ, zero, suc, _+_, _*_, _≤_, _<_}
+use mathlib.Core.Bool.{true, false}
+use Prim.Native.Nat.{ℕ, zero, suc, _+_, _≤_, _<_}
 use native.Mathlib.Omega.{arith}
-use lib.Dec.{ltb}
 use Rattle.std.specs.Iters.{counting}
-use Rattle.std.specs.shelf.Lists.{All}
 use Rattle.std.proofs.shelf.Tests.{ltb-true, not-false}
 use Rattle.std.specs.declared.option.Option.{Option}
 use Rattle.std.specs.declared.option.Option.the-variants.{Some, None}
@@ -15,12 +12,11 @@ use Rattle.std.specs.declared.result.Result.{Result}
 use Rattle.std.specs.declared.result.Result.the-variants.{Ok, Err}
 use Rattle.netlists.specs.declared.counts.Counts.{Counts}
 use Rattle.netlists.specs.declared.fault.Refusal.{Refusal}
-use Rattle.netlists.specs.declared.fault.Refusal.the-variants.{MalformedHeader, WrongCounts, MalformedLine, WrongLiteral, LargeLiteral, WrongPin, FewWords}
+use Rattle.netlists.specs.declared.fault.Refusal.the-variants.{MalformedHeader, MalformedLine}
 use Rattle.netlists.specs.declared.fault.ReadFault.{ReadFault}
-use Rattle.netlists.specs.declared.lines.Header.{Header}
 use Rattle.netlists.specs.Lines.{header, single, flop, gate}
-use Rattle.netlists.specs.Net.{Net, Bounded-counts, room}
-use Rattle.netlists.specs.Reading.{judged, refused, onward, each, counts-fit, header-line, input-line, flop-line, output-line, gate-line, net-of, sections, reading}
+use Rattle.netlists.specs.Net.{Bounded-counts, room}
+use Rattle.netlists.specs.Reading.{judged, refused, onward, each, header-line, input-line, flop-line, output-line, gate-line, net-of, sections, reading}
 use Rattle.netlists.specs.Refusals.{Check, first-due}
 use Rattle.netlists.specs.Written.{Placed}
 use Rattle.netlists.proofs.Accepted.{header-accepted}

@@ -1,7 +1,7 @@
 -- An accepted reading comes from accepted parts.
 use mathlib.Core.Path.{_≡_, refl, sym, ap, _∙_}
-use mathlib.Core.List.{List, [], _∷_, _++_}
-use Prim.Native.Nat.{ℕ, _+_, _-_, _*_, _≤_, _<_}
+use mathlib.Core.List.{List, _++_}
+use Prim.Native.Nat.{ℕ}
 use native.Mathlib.Omega.{arith}
 use lib.ListN.{length, take, drop, replicate}
 use Rattle.std.specs.Iters.{counting}
@@ -120,17 +120,17 @@ pub reading-from : (lent : ℕ) (t t₁ t₂ : List ℕ) (h : Header) (net : Net
 reading-from lent t t₁ t₂ h net a b = rw (← a, b) refl
 
 -- an accepted text: the circuit's words, and then what the words held
-pub accepted-words : (lent : ℕ) (t t₁ t₂ ws ws′ : List ℕ) (h : Header)
-    → Ok (h, t₁) ≡ header-line lent t
+pub accepted-words : (lent : ℕ) (t t₀ t₁ t₂ ws ws′ : List ℕ) (h : Header) → t₀ ≡ t
+    → Ok (h, t₁) ≡ header-line lent t₀
     → Ok (take (room (h .counts)) ws′, t₂) ≡ as-words layout (sections (h .counts) t₁)
     → drop (room (h .counts)) ws′ ≡ drop (room (h .counts)) ws
     → (Ok (h .counts) ≡ answered (reading lent t)) × (ws′ ≡ words-after (reading lent t) ws)
-accepted-words lent t t₁ t₂ ws ws′ h a b d =
+accepted-words lent t t₀ t₁ t₂ ws ws′ h z a b d =
     let s = words-ok layout (sections (h .counts) t₁) (take (room (h .counts)) ws′) t₂ b in
     let n = s .0 in let s₁ = s .1 .0 in
     let p = sections-parts (h .counts) t₁ n t₂ s₁ in
     let k : n .counts ≡ h .counts = ap (λ (m : Net). m .counts) (p .net-is) in
-    let r : reading lent t ≡ Ok n = reading-from lent t t₁ t₂ h n a s₁ in
+    let r : reading lent t ≡ Ok n = reading-from lent t t₁ t₂ h n (a ∙ ap (header-line lent) z) s₁ in
     let w : ws′ ≡ layout n ++ drop (room (n .counts)) ws
     = sym (take-append-drop (room (h .counts)) ws′) ∙ ap (λ (y : List ℕ). y ++ drop (room (h .counts)) ws′) (sym (s .1 .1))
     ∙ ap (λ (y : List ℕ). layout n ++ y) d ∙ ap (λ (c : Counts). layout n ++ drop (room c) ws) (sym k) in
@@ -143,12 +143,15 @@ Refused f q ws = (Err f ≡ answered q) × (replicate (length ws) 0 ≡ words-af
 refused-from : (f : ReadFault) (q : Result Net ReadFault) (ws : List ℕ) → q ≡ Err f → Refused f q ws
 refused-from f q ws e = (sym (ap answered e), sym (ap (λ r. words-after r ws) e))
 
-pub header-refused : (lent : ℕ) (t ws : List ℕ) (f : ReadFault) → Err f ≡ header-line lent t → Refused f (reading lent t) ws
-header-refused lent t ws f a = refused-from f (reading lent t) ws (rw (← a) refl)
+pub header-refused : (lent : ℕ) (t t₀ ws : List ℕ) (f : ReadFault) → t₀ ≡ t → Err f ≡ header-line lent t₀ → Refused f (reading lent t) ws
+header-refused lent t t₀ ws f z a =
+    let b : Err f ≡ header-line lent t = a ∙ ap (header-line lent) z in
+    refused-from f (reading lent t) ws (rw (← b) refl)
 
-pub later-refused : (lent : ℕ) (t t₁ ws : List ℕ) (h : Header) (f : ReadFault) → Ok (h, t₁) ≡ header-line lent t
+pub later-refused : (lent : ℕ) (t t₀ t₁ ws : List ℕ) (h : Header) (f : ReadFault) → t₀ ≡ t → Ok (h, t₁) ≡ header-line lent t₀
     → Err f ≡ as-words layout (sections (h .counts) t₁) → Refused f (reading lent t) ws
-later-refused lent t t₁ ws h f a b =
+later-refused lent t t₀ t₁ ws h f z a b =
     let s = words-err layout (sections (h .counts) t₁) f b in
-    let r : reading lent t ≡ Err f = rw (← a, s) refl in
+    let d : Ok (h, t₁) ≡ header-line lent t = a ∙ ap (header-line lent) z in
+    let r : reading lent t ≡ Err f = rw (← d, s) refl in
     refused-from f (reading lent t) ws r
