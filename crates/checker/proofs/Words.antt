@@ -3,7 +3,7 @@ use mathlib.Core.Path.{subst}
 use native.Mathlib.Omega.{arith}
 use Rattle.netlists.specs.declared.fault.Refusal.{Refusal}
 use Rattle.netlists.specs.Net.{most-words}
-use Rattle.netlists.specs.Written.{Placed}
+use Rattle.netlists.specs.Laws.{Placed}
 use Rattle.netlists.proofs.Refused.{placed}
 use Rattle.checker.specs.Report.{Words-suffice}
 

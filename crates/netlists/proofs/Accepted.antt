@@ -25,7 +25,8 @@ use Rattle.netlists.specs.declared.lines.GateLine.{GateLine}
 use Rattle.netlists.specs.Lines.{header, single, flop, gate}
 use Rattle.netlists.specs.Net.{Net, Bounded, Bounded-counts, top, input-literal, flop-literal, gate-literal, gate-at, next-at, pin-at, room}
 use Rattle.netlists.specs.Reading.{each, input-line, flop-line, output-line, gate-line, header-line, net-of, sections, pin, is-third}
-use Rattle.netlists.specs.Written.{line, header-text, input-text, flop-text, output-text, gate-text, third-number, text, Accepts-written}
+use Rattle.netlists.specs.Written.{line, header-text, input-text, flop-text, output-text, gate-text, third-number, text}
+use Rattle.netlists.specs.Laws.{Accepts-written}
 use Rattle.netlists.proofs.Checks.{judged-parts, counts-fit-parts, third-back, pin-in}
 use Rattle.netlists.proofs.LineForms.{lines-exact}
 use Rattle.netlists.proofs.Steps.{onward-parts, same-ok, Parts, sections-parts}

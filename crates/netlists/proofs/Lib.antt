@@ -8,5 +8,6 @@ pub mod Checks
 pub mod ReadBack
 pub mod Accepted
 pub mod CycleValues
+pub mod Order
 pub mod Refused
 pub mod LawsOfReading

@@ -16,7 +16,8 @@ use Rattle.netlists.specs.declared.lines.Header.{Header}
 use Rattle.netlists.specs.declared.lines.FlopLine.{FlopLine}
 use Rattle.netlists.specs.declared.lines.GateLine.{GateLine}
 use Rattle.netlists.specs.Lines.{then, byte, numeral, field, single, third, flop, gate, header}
-use Rattle.netlists.specs.Written.{further, line, Starts-line, Lines-exact}
+use Rattle.netlists.specs.Written.{further, line, Starts-line}
+use Rattle.netlists.specs.Laws.{Lines-exact}
 use Rattle.netlists.proofs.Numerals.{numeral-read, numeral-exact, none-some}
 
 -- what is written is read

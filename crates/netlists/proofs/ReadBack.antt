@@ -21,7 +21,8 @@ use Rattle.netlists.specs.declared.lines.FlopLine.{FlopLine}
 use Rattle.netlists.specs.declared.lines.GateLine.{GateLine}
 use Rattle.netlists.specs.Net.{Net, Bounded, last-net, top, input-literal, flop-literal, gate-literal, gate-at, next-at, pin-at, out-at, room}
 use Rattle.netlists.specs.Reading.{each, onward, input-line, flop-line, output-line, gate-line, header-line, net-of, sections, pin}
-use Rattle.netlists.specs.Written.{line, header-text, input-text, flop-text, output-text, gate-text, text, Reads-back}
+use Rattle.netlists.specs.Written.{line, header-text, input-text, flop-text, output-text, gate-text, text}
+use Rattle.netlists.specs.Laws.{Reads-back}
 use Rattle.netlists.proofs.Checks.{passed, counts-fit-from, third-of, third-is, third-fits, third-pin}
 use Rattle.netlists.proofs.LineForms.{lines-exact}
 use Rattle.netlists.proofs.Steps.{sections-read, reading-from}

@@ -18,7 +18,7 @@ use Rattle.netlists.specs.Lines.{header, single, flop, gate}
 use Rattle.netlists.specs.Net.{Bounded-counts, room}
 use Rattle.netlists.specs.Reading.{judged, refused, onward, each, header-line, input-line, flop-line, output-line, gate-line, net-of, sections, reading}
 use Rattle.netlists.specs.Refusals.{Check, first-due}
-use Rattle.netlists.specs.Written.{Placed}
+use Rattle.netlists.specs.Laws.{Placed}
 use Rattle.netlists.proofs.Accepted.{header-accepted}
 use Rattle.netlists.proofs.Checks.{counts-fit-parts}
 use Rattle.netlists.proofs.Numerals.{none-some}

@@ -4,4 +4,5 @@ pub mod Lines
 pub mod Beside
 pub mod Reading
 pub mod Written
+pub mod Laws
 pub mod Told

@@ -34,13 +34,18 @@ counts-fit h =
     leb (h .counts .inputs) 256 && (leb (h .counts .flops) 256 && (leb (h .counts .gates) 8192
     && (leb 1 (h .counts .outputs) && (leb (h .counts .outputs) 256 && eqb (h .last) (last-net (h .counts))))))
 
+abbrev pub header-checks : ℕ → Header → List Check
+header-checks lent h = (WrongCounts, not (counts-fit h)) ∷ (FewWords, ltb lent (room (h .counts))) ∷ []
+
 abbrev pub header-line : ℕ → List ℕ → Result (Header × List ℕ) ReadFault
-header-line lent t = judged 1 MalformedHeader (header t) (λ h.
-    (WrongCounts, not (counts-fit h)) ∷ (FewWords, ltb lent (room (h .counts))) ∷ [])
+header-line lent t = judged 1 MalformedHeader (header t) (header-checks lent)
 
 -- the line of input i, which has its own literal
+abbrev pub input-checks : ℕ → ℕ → List Check
+input-checks i x = (WrongLiteral, not (eqb x (input-literal i))) ∷ []
+
 abbrev pub input-line : ℕ → List ℕ → Result (ℕ × List ℕ) ReadFault
-input-line i t = judged (2 + i) MalformedLine (single t) (λ x. (WrongLiteral, not (eqb x (input-literal i))) ∷ [])
+input-line i t = judged (2 + i) MalformedLine (single t) (input-checks i)
 
 -- a flop's third number: none, 0, 1 or its own literal; its pin is 0, 0, 1 or 2
 abbrev pub is-third : ℕ → Option ℕ → Bool
@@ -52,21 +57,30 @@ pin None = 0
 pin (Some n) = cond (leb n 1) n 2
 
 -- the line of flop j
-abbrev pub flop-line : Counts → ℕ → List ℕ → Result (FlopLine × List ℕ) ReadFault
-flop-line c j t = judged (2 + c .inputs + j) MalformedLine (flop t) (λ f.
+abbrev pub flop-checks : Counts → ℕ → FlopLine → List Check
+flop-checks c j f =
     (WrongLiteral, not (eqb (f .own) (flop-literal c j)))
     ∷ (LargeLiteral, ltb (top c) (f .next))
-    ∷ (WrongPin, not (is-third (flop-literal c j) (f .third))) ∷ [])
+    ∷ (WrongPin, not (is-third (flop-literal c j) (f .third))) ∷ []
+
+abbrev pub flop-line : Counts → ℕ → List ℕ → Result (FlopLine × List ℕ) ReadFault
+flop-line c j t = judged (2 + c .inputs + j) MalformedLine (flop t) (flop-checks c j)
 
 -- the line of output j
+abbrev pub output-checks : Counts → ℕ → List Check
+output-checks c x = (LargeLiteral, ltb (top c) x) ∷ []
+
 abbrev pub output-line : Counts → ℕ → List ℕ → Result (ℕ × List ℕ) ReadFault
-output-line c j t = judged (2 + c .inputs + c .flops + j) MalformedLine (single t) (λ x. (LargeLiteral, ltb (top c) x) ∷ [])
+output-line c j t = judged (2 + c .inputs + c .flops + j) MalformedLine (single t) (output-checks c)
 
 -- the line of gate i, whose operands are below its own literal
-abbrev pub gate-line : Counts → ℕ → List ℕ → Result (GateLine × List ℕ) ReadFault
-gate-line c i t = judged (2 + c .inputs + c .flops + c .outputs + i) MalformedLine (gate t) (λ g.
+abbrev pub gate-checks : Counts → ℕ → GateLine → List Check
+gate-checks c i g =
     (WrongLiteral, not (eqb (g .own) (gate-literal c i)))
-    ∷ (LargeLiteral, leb (gate-literal c i) (g .left) || leb (gate-literal c i) (g .right)) ∷ [])
+    ∷ (LargeLiteral, leb (gate-literal c i) (g .left) || leb (gate-literal c i) (g .right)) ∷ []
+
+abbrev pub gate-line : Counts → ℕ → List ℕ → Result (GateLine × List ℕ) ReadFault
+gate-line c i t = judged (2 + c .inputs + c .flops + c .outputs + i) MalformedLine (gate t) (gate-checks c i)
 
 -- one reader after another, up to a refusal
 abbrev pub onward : {X Y : Type 0} → Result (X × List ℕ) ReadFault → (X → List ℕ → Result Y ReadFault) → Result Y ReadFault

@@ -11,7 +11,7 @@ ghost use Rattle.std.specs.declared.result.Result.the-variants.{Ok, Err};
 ghost use Rattle.netlists.specs.Net.{Bounded-counts, layout, operand-words, room};
 ghost use Rattle.netlists.specs.Beside.{beside-result, holding, as-words};
 ghost use Rattle.netlists.specs.Reading as spec;
-ghost use Rattle.netlists.specs.Written.{Laws};
+ghost use Rattle.netlists.specs.Laws.{Laws};
 use crate::counts::Counts;
 use crate::counts::MOST_FLOPS;
 use crate::counts::MOST_GATES;
