@@ -4,6 +4,7 @@ use Prim.Native.Nat.{ℕ}
 use Rattle.netlists.specs.Laws.{Laws}
 use Rattle.netlists.proofs.Accepted.{accepts-written}
 use Rattle.netlists.proofs.CycleValues.{cycles}
+use Rattle.netlists.proofs.Layouts.{room-taken}
 use Rattle.netlists.proofs.LineForms.{lines-exact}
 use Rattle.netlists.proofs.Order.{in-order}
 use Rattle.netlists.proofs.Refused.{placed}
@@ -16,5 +17,6 @@ laws lent t = record {
   accepts-written = accepts-written lent t;
   in-order = in-order;
   placed = placed lent t;
+  room-taken = room-taken;
   cycles = λ net e. cycles net (accepts-written lent t net e .0);
 }

@@ -3,6 +3,7 @@ pub mod Sections
 pub mod Places
 pub mod Steps
 pub mod Numerals
+pub mod Layouts
 pub mod LineForms
 pub mod Checks
 pub mod ReadBack

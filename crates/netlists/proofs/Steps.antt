@@ -1,7 +1,7 @@
 -- An accepted reading comes from accepted parts.
 use mathlib.Core.Path.{_≡_, refl, sym, ap, _∙_}
 use mathlib.Core.List.{List, _++_}
-use Prim.Native.Nat.{ℕ}
+use Prim.Native.Nat.{ℕ, _≤_}
 use native.Mathlib.Omega.{arith}
 use lib.ListN.{length, take, drop, replicate}
 use Rattle.std.specs.Iters.{counting}
@@ -15,7 +15,7 @@ use Rattle.netlists.specs.declared.lines.GateLine.{GateLine}
 use Rattle.netlists.specs.Beside.{as-words, holding}
 use Rattle.netlists.specs.Net.{Net, layout, operand-words, room}
 use Rattle.netlists.specs.Reading.{each, onward, input-line, flop-line, output-line, gate-line, header-line, nexts-of, pins-of, operands-of, net-of, sections, reading, answered, words-after}
-use Rattle.std.proofs.shelf.Lists.{append-assoc, take-append-drop}
+use Rattle.std.proofs.shelf.Lists.{append-assoc, take-append-drop, length-take-le}
 
 pub never-both : {X F : Type 0} (f : F) (x : X) → _≡_ {A = Result X F} (Err f) (Ok x) → ⊥
 never-both f x e = let z : _≡_ {A = ℕ} 0 1 = cc in omega arith
@@ -124,17 +124,20 @@ pub accepted-words : (lent : ℕ) (t t₀ t₁ t₂ ws ws′ : List ℕ) (h : He
     → Ok (h, t₁) ≡ header-line lent t₀
     → Ok (take (room (h .counts)) ws′, t₂) ≡ as-words layout (sections (h .counts) t₁)
     → drop (room (h .counts)) ws′ ≡ drop (room (h .counts)) ws
+    → room (h .counts) ≤ length ws′
     → (Ok (h .counts) ≡ answered (reading lent t)) × (ws′ ≡ words-after (reading lent t) ws)
-accepted-words lent t t₀ t₁ t₂ ws ws′ h z a b d =
-    let s = words-ok layout (sections (h .counts) t₁) (take (room (h .counts)) ws′) t₂ b in
-    let n = s .0 in let s₁ = s .1 .0 in
-    let p = sections-parts (h .counts) t₁ n t₂ s₁ in
-    let k : n .counts ≡ h .counts = ap (λ (m : Net). m .counts) (p .net-is) in
-    let r : reading lent t ≡ Ok n = reading-from lent t t₁ t₂ h n (a ∙ ap (header-line lent) z) s₁ in
-    let w : ws′ ≡ layout n ++ drop (room (n .counts)) ws
-    = sym (take-append-drop (room (h .counts)) ws′) ∙ ap (λ (y : List ℕ). y ++ drop (room (h .counts)) ws′) (sym (s .1 .1))
-    ∙ ap (λ (y : List ℕ). layout n ++ y) d ∙ ap (λ (c : Counts). layout n ++ drop (room c) ws) (sym k) in
-    (ap (λ (c : Counts). Ok c) (sym k) ∙ sym (ap answered r), w ∙ sym (ap (λ q. words-after q ws) r))
+accepted-words lent t t₀ t₁ t₂ ws ws′ h z a b d k =
+    let c = h .counts in
+    let s = words-ok layout (sections c t₁) (take (room c) ws′) t₂ b in
+    let n = s .0 in
+    let p = sections-parts c t₁ n t₂ (s .1 .0) in
+    let e : n .counts ≡ c = ap (λ (m : Net). m .counts) (p .net-is) in
+    let r : reading lent t ≡ Ok n = reading-from lent t t₁ t₂ h n (a ∙ ap (header-line lent) z) (s .1 .0) in
+    let l : length (layout n) ≡ room c = ap length (s .1 .1) ∙ length-take-le (room c) ws′ k in
+    let w : ws′ ≡ layout n ++ drop (length (layout n)) ws
+    = sym (take-append-drop (room c) ws′) ∙ ap (λ (y : List ℕ). y ++ drop (room c) ws′) (sym (s .1 .1))
+    ∙ ap (λ (y : List ℕ). layout n ++ y) d ∙ ap (λ m. layout n ++ drop m ws) (sym l) in
+    (ap (λ (x : Counts). Ok x) (sym e) ∙ sym (ap answered r), w ∙ sym (ap (λ q. words-after q ws) r))
 
 -- a refused one, by line 1 or a later line: zeros
 abbrev pub Refused : ReadFault → Result Net ReadFault → List ℕ → Type 0

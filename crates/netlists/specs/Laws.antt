@@ -4,6 +4,7 @@ use mathlib.Core.List.{List, [], _∷_, _++_}
 use mathlib.Core.Logic.{_↔_}
 use Prim.Native.Nat.{ℕ, _≤_, _<_}
 use lib.Chars.{codes}
+use lib.ListN.{length}
 use Rattle.std.specs.Vec.{listOf}
 use Rattle.std.specs.declared.option.Option.the-variants.{Some}
 use Rattle.std.specs.declared.result.Result.the-variants.{Ok, Err}
@@ -15,7 +16,7 @@ use Rattle.netlists.specs.declared.lines.Header.{Header}
 use Rattle.netlists.specs.declared.lines.FlopLine.{FlopLine}
 use Rattle.netlists.specs.declared.lines.GateLine.{GateLine}
 use Rattle.netlists.specs.Lines.{header, single, flop, gate}
-use Rattle.netlists.specs.Net.{Net, Bounded, Cycles, room, most-words}
+use Rattle.netlists.specs.Net.{Net, Bounded, Cycles, layout, room, most-words}
 use Rattle.netlists.specs.Reading.{reading, header-checks, input-checks, flop-checks, output-checks, gate-checks}
 use Rattle.netlists.specs.Refusals.{Check, number, first-due, Rising, Lowest}
 use Rattle.netlists.specs.Written.{Starts-line, Begins-with}
@@ -69,5 +70,7 @@ pub record Laws (lent : ℕ) (t : List ℕ) : Type 0 where
   pub accepts-written : Accepts-written lent t
   pub in-order : In-order
   pub placed : (f : ReadFault) → reading lent t ≡ Err f → Placed lent f
+  -- the words that a circuit takes are as many as are asked for
+  pub room-taken : (net : Net) → Bounded net → length (layout net) ≡ room (net .counts)
   -- what was read is a circuit: in a cycle each net has its value, and there are as many outputs and next bits as counted
   pub cycles : (net : Net) → reading lent t ≡ Ok net → Cycles net

@@ -123,5 +123,5 @@ answered (Ok net) = Ok (net .counts)
 answered (Err f) = Err f
 
 abbrev pub words-after : Result Net ReadFault → List ℕ → List ℕ
-words-after (Ok net) ws = layout net ++ drop (room (net .counts)) ws
+words-after (Ok net) ws = layout net ++ drop (length (layout net)) ws
 words-after (Err f) ws = replicate (length ws) 0

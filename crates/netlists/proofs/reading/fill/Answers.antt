@@ -1,4 +1,5 @@
 use mathlib.Core.Path.{refl}
+use native.Mathlib.Omega.{arith}
 use Rattle.std.proofs.shelf.Results.{err-from-errBy}
 use Rattle.netlists.proofs.LawsOfReading.{laws}
 use Rattle.netlists.proofs.Steps.{accepted-words, header-refused, later-refused}
@@ -21,5 +22,6 @@ pub returns : need.returns
 returns c =
     let p = accepted-words _ (c .args .text .now) _ _ _ (c .args .words .now) (c .sections .last .words) (c .in-Continue-header .header)
     (c .new-lines .ensures) (c .in-Continue-header .ensures tt .line)
-    (c .in-Continue-sections .ensures tt .front) (c .in-Continue-sections .ensures tt .later refl) in
+    (c .in-Continue-sections .ensures tt .front) (c .in-Continue-sections .ensures tt .later refl)
+    (omega (arith, c .in-Continue-header .ensures tt .fits .1)) in
     record { answer = p .0; written = p .1; laws = laws _ _ }
