@@ -1,10 +1,10 @@
 -- The words lent for a netlist suffice.
 use mathlib.Core.Path.{subst}
 use native.Mathlib.Omega.{arith}
-use Rattle.netlists.specs.declared.fault.Refusal.{Refusal}
-use Rattle.netlists.specs.Net.{most-words}
-use Rattle.netlists.specs.Laws.{Placed}
-use Rattle.netlists.proofs.Refused.{placed}
+use Rattle.aiger.specs.declared.fault.Refusal.{Refusal}
+use Rattle.circuits.specs.Net.{most-words}
+use Rattle.aiger.specs.Laws.{Placed}
+use Rattle.aiger.proofs.Refused.{placed}
 use Rattle.checker.specs.Report.{Words-suffice}
 
 pub words-suffice : Words-suffice

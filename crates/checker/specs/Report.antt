@@ -9,13 +9,13 @@ use lib.ListN.{length}
 use Rattle.std.specs.Written.{decimal}
 use Rattle.std.specs.declared.result.Result.{Result}
 use Rattle.std.specs.declared.result.Result.the-variants.{Ok, Err}
-use Rattle.netlists.specs.declared.counts.Counts.{Counts}
-use Rattle.netlists.specs.declared.fault.Refusal.the-variants.{FewWords}
-use Rattle.netlists.specs.declared.fault.ReadFault.{ReadFault}
-use Rattle.netlists.specs.Net.{most-words}
-use Rattle.netlists.specs.Reading.{reading, answered}
-use Rattle.netlists.specs.Refusals.{number}
-use Rattle.netlists.specs.Told.{told-counts}
+use Rattle.circuits.specs.declared.counts.Counts.{Counts}
+use Rattle.aiger.specs.declared.fault.Refusal.the-variants.{FewWords}
+use Rattle.aiger.specs.declared.fault.ReadFault.{ReadFault}
+use Rattle.circuits.specs.Net.{most-words}
+use Rattle.aiger.specs.Reading.{reading, answered}
+use Rattle.aiger.specs.Refusals.{number}
+use Rattle.circuits.specs.Told.{told-counts}
 use Rattle.checker.specs.declared.report.Netlist.{Netlist}
 use Rattle.checker.specs.declared.report.Netlist.the-variants.{Original, Gated}
 use Rattle.checker.specs.declared.report.Report.{Report}

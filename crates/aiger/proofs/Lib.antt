@@ -1,0 +1,12 @@
+pub mod Fronts
+pub mod Sections
+pub mod Places
+pub mod Steps
+pub mod Numerals
+pub mod LineForms
+pub mod Checks
+pub mod ReadBack
+pub mod Accepted
+pub mod Order
+pub mod Refused
+pub mod LawsOfReading

@@ -1,0 +1,3 @@
+// What a circuit is: its counts, and the flops that a padding adds.
+pub mod counts;
+pub mod dummy;

@@ -1,6 +1,0 @@
-use borrow.Author.Needs.{needs}
-use Rattle.netlists.proofs.Fronts.{digit-took}
-use Rattle.netlists.proofs.lines.Lines.digit.Needs as need
-
-pub returns-in-48-to-57 : need.returns-in-48-to-57
-returns-in-48-to-57 c = search (needs, digit-took)

@@ -1,8 +1,0 @@
-pub mod Net
-pub mod Refusals
-pub mod Lines
-pub mod Beside
-pub mod Reading
-pub mod Written
-pub mod Laws
-pub mod Told

@@ -1,5 +1,0 @@
-// Netlists: AIGER text, read from bytes into lent words of 32 bits.
-pub mod counts;
-pub mod fault;
-mod lines;
-pub mod reading;
