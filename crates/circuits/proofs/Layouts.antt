@@ -7,7 +7,7 @@ use lib.ListN.{length}
 use Rattle.std.proofs.shelf.Lists.{length-append}
 use Rattle.circuits.specs.Net.{Net, Bounded, operand-words, layout, room}
 
-two-each : (gs : List (ℕ × ℕ)) → length (operand-words gs) ≡ 2 * length gs
+pub two-each : (gs : List (ℕ × ℕ)) → length (operand-words gs) ≡ 2 * length gs
 two-each [] = refl
 two-each (g ∷ gs) = let e = two-each gs in omega arith
 

@@ -1,3 +1,13 @@
 pub mod Bounds
+pub mod Nets
+pub mod Mapped
+pub mod NetsBefore
 pub mod CycleValues
 pub mod Layouts
+pub mod HeldInWords
+pub mod Renumbering
+pub mod PaddedPlaces
+pub mod Paddings
+pub mod Orders
+pub mod Matchings
+pub mod MatchedPlaces

@@ -1,0 +1,3 @@
+// Circuits known by their answers: one interface, and kinds that keep it.
+pub mod circuit;
+pub mod plain;
