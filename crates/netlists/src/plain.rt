@@ -2,10 +2,10 @@
 ghost use mathlib.Core.Path.{_≡_};
 ghost use Prim.Native.Nat.{_+_, _*_, _≤_};
 ghost use lib.ListN.{length, getD};
-ghost use mathlib.Core.Bool.{true, cond};
+ghost use mathlib.Core.Bool.{true, false};
 ghost use denote.Ref.{now};
 ghost use Rattle.std.specs.Orderings.{Decides};
-ghost use Rattle.circuits.specs.Net.{room};
+ghost use Rattle.circuits.specs.Net.{Net, room};
 ghost use Rattle.netlists.specs.Plain.{Stands-for};
 ghost use Rattle.circuits.specs.Held.{Well-laid, At-most, Gates-low, Rows-low, net-in, row-in, pairs-in, blank};
 ghost use Rattle.circuits.proofs.HeldInWords.{held-bounded};
@@ -73,7 +73,7 @@ fn rows_low(counts: Counts, words: &[u32]) -> bool
 {
     let nexts = 2 * counts.gates as usize;
     let pins = nexts + counts.flops as usize;
-    let outs = pins + counts.flops as usize;
+    let outs = nexts + 2 * counts.flops as usize;
     let top = counts.largest_literal();
     row_at_most(words, top, nexts, counts.flops)
         && row_at_most(words, 2, pins, counts.flops)
@@ -90,16 +90,24 @@ fn well_laid(counts: Counts, words: &[u32]) -> bool
         && rows_low(counts, words)
 }
 
+// The same, with what the words then stand for.
+fn holds_circuit(counts: Counts, words: &[u32]) -> bool
+    ensures laid { λ r. ⌜ (r ≡ true → Well-laid counts (now (words .entry))) ⌝ }
+    ensures held { λ r. ⌜ (r ≡ true → Stands-for counts (now (words .entry)) (net-in counts (now (words .entry)))) ⌝ }
+    ensures none { λ r. ⌜ (r ≡ false → (n : Net) → n ≡ blank → Stands-for counts (now (words .entry)) n) ⌝ }
+{
+    well_laid(counts, words)
+}
+
 impl<'a> Plain<'a> {
     // The circuit of these counts that the words hold; where they hold none, the blank one, whose one output is false.
     pub fn new(counts: Counts, words: &'a [u32]) -> Plain<'a>
         ensures { λ r. ⌜ Stands-for counts (now (words .entry)) (net-in (r .counts) (now (r .words))) ⌝ }
     {
-        if well_laid(counts, words) {
-            Plain { counts, words }
-        } else {
-            Plain::blank()
+        if holds_circuit(counts, words) {
+            return Plain { counts, words };
         }
+        Plain::blank()
     }
 
     fn blank() -> Plain<'a>
