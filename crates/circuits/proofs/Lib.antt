@@ -1,6 +1,8 @@
 pub mod Bounds
+pub mod Checking
 pub mod Nets
 pub mod Mapped
+pub mod Lookups
 pub mod NetsBefore
 pub mod CycleValues
 pub mod Layouts

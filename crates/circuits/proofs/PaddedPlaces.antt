@@ -1,7 +1,8 @@
 -- What a padded circuit has at each place.
-use mathlib.Core.Path.{_≡_, ap, ap₂, _∙_}
+use mathlib.Core.Path.{_≡_, sym, ap, ap₂, _∙_}
 use mathlib.Core.List.{List, _++_, map}
 use mathlib.Core.Bool.{cond}
+use mathlib.Core.Logic.{_⊎_, ⊎-elim}
 use Prim.Native.Nat.{ℕ, _+_, _-_, _*_, _≤_, _<_, min}
 use native.Mathlib.Omega.{arith}
 use lib.Dec.{leb·zero}
@@ -64,6 +65,17 @@ module _ (n : Net) (ds : List Dummy) where
 
   pub padded-pin-past : (j : ℕ) → Bounded n → n .counts .flops + length ds ≤ j → pin-at (padded n ds) j ≡ 2
   padded-pin-past j b h = past-dummies (n .pins) (λ d. d .pin) ds (n .counts .flops) 2 j (b .pins-are) h
+
+  -- a flop that is no dummy, or none at all, has what the circuit below has for its number
+  pub padded-next-other : (j : ℕ) → Bounded n → (j < n .counts .flops) ⊎ (n .counts .flops + length ds ≤ j)
+      → next-at (padded n ds) j ≡ renumbered (moved-up (n .counts) (length ds)) (next-at n j)
+  padded-next-other j b =
+      ⊎-elim (padded-next-own j b) (λ h.
+        padded-next-past j b h ∙ sym (ap (renumbered to) (getD-past (n .nexts) j 0 (omega (arith, b .nexts-are))) ∙ zero-kept))
+
+  pub padded-pin-other : (j : ℕ) → Bounded n → (j < n .counts .flops) ⊎ (n .counts .flops + length ds ≤ j) → pin-at (padded n ds) j ≡ pin-at n j
+  padded-pin-other j b =
+      ⊎-elim (padded-pin-own j b) (λ h. padded-pin-past j b h ∙ sym (getD-past (n .pins) j 2 (omega (arith, b .pins-are))))
 
 -- one dummy, brought within the bounds
 abbrev pub fit : Counts → Dummy → Dummy

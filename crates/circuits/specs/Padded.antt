@@ -50,3 +50,10 @@ pub record Padding-laws (n : Net) (ds : List Dummy) : Type 0 where
 -- as they are.
 abbrev pub fitted : Counts → List Dummy → List Dummy
 fitted c ds = map (λ d. record { next = min (d .next) (top c); pin = min (d .pin) 2 }) (take (256 - c .flops) ds)
+
+-- what a padding with any dummies stands for, and how it renumbers nets
+abbrev pub padded-by : Net → List Dummy → Net
+padded-by n ds = padded n (fitted (n .counts) ds)
+
+abbrev pub raising : Net → List Dummy → ℕ → ℕ
+raising n ds = moved-up (n .counts) (length (fitted (n .counts) ds))

@@ -1,1 +1,4 @@
 pub mod Plain
+pub mod Layers
+pub mod Faults
+pub mod Padding

@@ -1,0 +1,10 @@
+-- The refusals of layers, and their numbers.
+use Prim.Native.Nat.{ℕ}
+use Rattle.netlists.specs.declared.fault.PadFault.{PadFault}
+use Rattle.netlists.specs.declared.fault.PadFault.the-variants.{ManyDummies, ManyFlops, LargeLiteral, LargePin}
+
+abbrev pub pad-number : PadFault → ℕ
+pad-number ManyDummies = 8
+pad-number ManyFlops = 8
+pad-number (LargeLiteral k) = 8
+pad-number (LargePin k) = 8
