@@ -63,3 +63,7 @@ pub record Matching-laws (n : Net) (p : List ℕ) : Type 0 where
 -- flop is the last. With an order and its inverse it is the matched circuit.
 abbrev pub wired : Net → List ℕ → List ℕ → Net
 wired n p places = rewired n (first 0 (n .counts .flops) p) (λ f. min (getD places f 0) (n .counts .flops - 1))
+
+-- how that renumbers nets
+abbrev pub rewiring : Net → List ℕ → ℕ → ℕ
+rewiring n places = flops-moved (n .counts) (λ f. min (getD places f 0) (n .counts .flops - 1))

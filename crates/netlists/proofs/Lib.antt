@@ -1,2 +1,3 @@
 pub mod Plains
 pub mod Pads
+pub mod Matches

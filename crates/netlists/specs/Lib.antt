@@ -2,3 +2,4 @@ pub mod Plain
 pub mod Layers
 pub mod Faults
 pub mod Padding
+pub mod Matching

@@ -22,3 +22,20 @@ impl PadFault {
         8
     }
 }
+
+#[derive(Clone, Copy)]
+pub enum MatchFault {
+    // the order has not one entry for each flop
+    WrongLength,
+    // the order does not name this flop, the first such
+    Unmatched(u32),
+}
+
+impl MatchFault {
+    // The number by which users know the refusal.
+    pub fn number(self) -> u32
+        ensures { λ r. ⌜ r ≡ spec.match-number self ⌝ }
+    {
+        9
+    }
+}
