@@ -1,1 +1,2 @@
+pub mod Summary
 pub mod Report

@@ -9,13 +9,13 @@ use lib.ListN.{length}
 use Rattle.std.specs.Written.{decimal}
 use Rattle.std.specs.declared.result.Result.{Result}
 use Rattle.std.specs.declared.result.Result.the-variants.{Ok, Err}
-use Rattle.circuits.specs.declared.counts.Counts.{Counts}
 use Rattle.aiger.specs.declared.fault.Refusal.the-variants.{FewWords}
 use Rattle.aiger.specs.declared.fault.ReadFault.{ReadFault}
 use Rattle.circuits.specs.Net.{most-words}
-use Rattle.aiger.specs.Reading.{reading, answered}
+use Rattle.aiger.specs.Reading.{reading}
 use Rattle.aiger.specs.Refusals.{number}
-use Rattle.circuits.specs.Told.{told-counts}
+use Rattle.checker.specs.Summary.{summed, told}
+use Rattle.checker.specs.declared.summary.Summary.{Summary}
 use Rattle.checker.specs.declared.report.Netlist.{Netlist}
 use Rattle.checker.specs.declared.report.Netlist.the-variants.{Original, Gated}
 use Rattle.checker.specs.declared.report.Report.{Report}
@@ -29,7 +29,7 @@ abbrev pub too-long : List ℕ → List ℕ → Bool
 too-long original gated = ltb most-bytes (length original) || ltb most-bytes (length gated)
 
 -- the original is told before the gated netlist
-abbrev pub of-answers : Result Counts ReadFault → Result Counts ReadFault → Report
+abbrev pub of-answers : Result Summary ReadFault → Result Summary ReadFault → Report
 of-answers (Err f) gated = Refused Original f
 of-answers (Ok a) (Err f) = Refused Gated f
 of-answers (Ok a) (Ok b) = Read a b
@@ -37,7 +37,7 @@ of-answers (Ok a) (Ok b) = Read a b
 abbrev pub report : List ℕ → List ℕ → Report
 report original gated =
     cond (too-long original gated) TooLong
-    (of-answers (answered (reading most-words original)) (answered (reading most-words gated)))
+    (of-answers (summed (reading most-words original)) (summed (reading most-words gated)))
 
 -- no text is refused for want of words
 abbrev pub Words-suffice : Type 0
@@ -58,4 +58,4 @@ abbrev pub line : Report → List ℕ
 line TooLong = codes "too long"
 line (Refused n f) =
     codes "refused " ++ (decimal (number (f .refusal)) ++ (codes " netlist " ++ (letter n ++ (codes " line " ++ decimal (f .line)))))
-line (Read a b) = codes "read netlist a with " ++ (told-counts a ++ (codes " and netlist b with " ++ told-counts b))
+line (Read a b) = codes "read netlist a with " ++ (told a ++ (codes " and netlist b with " ++ told b))

@@ -1,6 +1,7 @@
 // Reads the two netlists of a folder and prints one line: what was read, or why not.
 mod folder;
 mod report;
+mod summary;
 
 use folder::folder_named;
 use folder::read_file;

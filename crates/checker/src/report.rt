@@ -5,13 +5,13 @@ ghost use Rattle.std.specs.Of.Vec.{vec-len};
 ghost use Rattle.std.specs.Vec.{made};
 ghost use Rattle.std.specs.declared.option.Option.the-variants.{Some};
 ghost use Rattle.circuits.specs.Net.{most-words};
-ghost use Rattle.aiger.specs.Reading.{reading, answered, words-after};
+ghost use Rattle.aiger.specs.Reading.{reading, words-after};
 ghost use Rattle.checker.specs.Report as spec;
-use circuits::counts::Counts;
-use circuits::counts::CountsDisplay;
+ghost use Rattle.checker.specs.Summary.{summed};
 use circuits::counts::MOST_WORDS;
 use aiger::fault::ReadFault;
-use aiger::reading::read;
+use crate::summary::Summary;
+use crate::summary::SummaryDisplay;
 use std::alloc::AllocError;
 use std::alloc::Global;
 use std::fmt;
@@ -31,8 +31,8 @@ pub enum Report {
     TooLong,
     // a netlist's text is refused
     Refused(Netlist, ReadFault),
-    // both netlists are read; the counts of the original, and of the gated one
-    Read(Counts, Counts),
+    // both netlists are read; what is told of the original, and of the gated one
+    Read(Summary, Summary),
 }
 
 fn too_long(original: &[u8], gated: &[u8]) -> bool
@@ -51,7 +51,7 @@ fn netlist_words(heap: Global) -> Result<Vec<u32>, AllocError>
 
 impl Report {
     // What is told of two readings, of the original first.
-    fn of_answers(original: Result<Counts, ReadFault>, gated: Result<Counts, ReadFault>) -> Report
+    fn of_answers(original: Result<Summary, ReadFault>, gated: Result<Summary, ReadFault>) -> Report
         ensures { λ r. ⌜ r ≡ spec.of-answers original gated ⌝ }
     {
         match (original, gated) {
@@ -68,12 +68,12 @@ impl Report {
         original_words: &mut [u32],
         gated_words: &mut [u32],
     ) -> Report
-        ensures report { λ r. ⌜ r ≡ spec.of-answers (answered (reading (length (now («original_words» .entry))) (now (original .entry)))) (answered (reading (length (now («gated_words» .entry))) (now (gated .entry)))) ⌝ }
+        ensures report { λ r. ⌜ r ≡ spec.of-answers (summed (reading (length (now («original_words» .entry))) (now (original .entry)))) (summed (reading (length (now («gated_words» .entry))) (now (gated .entry)))) ⌝ }
         ensures original_after { λ _. ⌜ now («original_words» .exit) ≡ words-after (reading (length (now («original_words» .entry))) (now (original .entry))) (now («original_words» .entry)) ⌝ }
         ensures gated_after { λ _. ⌜ now («gated_words» .exit) ≡ words-after (reading (length (now («gated_words» .entry))) (now (gated .entry))) (now («gated_words» .entry)) ⌝ }
     {
-        let a = read(original, original_words);
-        let b = read(gated, gated_words);
+        let a = Summary::of_text(original, original_words);
+        let b = Summary::of_text(gated, gated_words);
         Report::of_answers(a, b)
     }
 
