@@ -28,7 +28,7 @@ use Rattle.circuits.proofs.Orders.{at-place, place-le}
 use Rattle.netlists.specs.declared.fault.MatchFault.{MatchFault}
 use Rattle.netlists.specs.declared.fault.MatchFault.the-variants.{Unmatched}
 use Rattle.netlists.specs.Layers.{meant}
-use Rattle.netlists.specs.Matching.{flop-check, match-checks, matching, Matches-orders, placed-from, Renamed, Stands-at}
+use Rattle.netlists.specs.Matching.{flop-check, match-checks, matching, Matches-orders, placed-from, Placed, Renamed, Stands-at}
 
 -- at the front of p, where b says that the front is f
 front-is : (b : Bool) (k a m : ℕ) → (b ≡ false → a ≡ k + 1 + m) → cond b k a ≡ k + cond b 0 (suc m)
@@ -136,10 +136,7 @@ matches-orders l p =
 
 -- an answer of the checks, as the answer of a matching
 module _ (n : Net) (b : Bounded n) (p : List ℕ) where
-  abbrev Right : List ℕ → Type 0
-  Right places = (f : ℕ) → f < 256 → getD places f 0 ≡ placed-from 0 p f
-
-  pub judged : (r : Result (List ℕ) MatchFault) → meant (λ _. tt {0}) r ≡ unless-due (match-checks (n .counts .flops) p) (tt {0}) → made r Right
+  pub judged : (r : Result (List ℕ) MatchFault) → meant (λ _. tt {0}) r ≡ unless-due (match-checks (n .counts .flops) p) (tt {0}) → made r (Placed p)
       → meant (λ places. wired n p places) r ≡ matching n p
   judged (Ok places) e right =
       let none = none-from-ok (match-checks (n .counts .flops) p) (tt {0}) (tt {0}) (sym e) in

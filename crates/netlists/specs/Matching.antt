@@ -3,9 +3,9 @@ use mathlib.Core.Path.{_≡_}
 use mathlib.Core.Bool.{Bool, not, cond}
 use mathlib.Core.List.{List, [], _∷_, map}
 use mathlib.Core.Logic.{_↔_}
-use Prim.Native.Nat.{ℕ, _+_}
+use Prim.Native.Nat.{ℕ, _+_, _<_}
 use lib.Dec.{eqb, leb}
-use lib.ListN.{length}
+use lib.ListN.{length, getD}
 use Rattle.std.specs.Iters.{counting}
 use Rattle.std.specs.declared.option.Option.the-variants.{None}
 use Rattle.std.specs.declared.result.Result.{Result}
@@ -36,6 +36,9 @@ Matches-orders l p = (first-due (match-checks l p) ≡ None) ↔ In-some-order l
 abbrev pub placed-from : ℕ → List ℕ → ℕ → ℕ
 placed-from k [] f = 0
 placed-from k (g ∷ p) f = cond (eqb g f) k (placed-from (k + 1) p f)
+
+abbrev pub Placed : List ℕ → List ℕ → Type 0
+Placed p places = (f : ℕ) → f < 256 → getD places f 0 ≡ placed-from 0 p f
 
 -- x is the literal of the circuit below that is this one above
 abbrev pub Renamed : Net → List ℕ → ℕ → ℕ → Type 0

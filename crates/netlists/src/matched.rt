@@ -1,7 +1,7 @@
 // A circuit with its flops in another order.
 ghost use mathlib.Core.Path.{_≡_};
-ghost use Prim.Native.Nat.{ℕ, _≤_, _<_};
-ghost use lib.ListN.{length, getD};
+ghost use Prim.Native.Nat.{_≤_, _<_};
+ghost use lib.ListN.{length, replicate};
 ghost use denote.Ref.{now};
 ghost use mathlib.Core.List.{[], _∷_, map};
 ghost use Rattle.std.specs.Iters.{counting};
@@ -12,7 +12,7 @@ ghost use Rattle.circuits.specs.Renumbered.{renumbered};
 ghost use Rattle.circuits.specs.Matched.{wired, rewiring, Matching-laws};
 ghost use Rattle.circuits.proofs.Matchings.{wired-bounded};
 ghost use Rattle.netlists.specs.Layers.{meant};
-ghost use Rattle.netlists.specs.Matching.{flop-check, match-checks, matching, Matches-orders, placed-from, Renamed, Stands-at};
+ghost use Rattle.netlists.specs.Matching.{flop-check, match-checks, matching, Matches-orders, placed-from, Placed, Renamed, Stands-at};
 use crate::circuit::Circuit;
 use crate::circuit::Gate;
 use crate::fault::MatchFault;
@@ -22,25 +22,32 @@ use circuits::counts::Counts;
 const FLOPS: usize = 256;
 
 // The circuit below, whose flop order[j] is flop j here. The place of each flop in the order is kept beside it, so that no answer searches.
-#[derive_where(Clone, Copy)]
+#[derive(Drop)]
 pub struct Matched<'a, 'p, C: Circuit> {
     below: &'a C,
     order: &'p [u32],
     places: [u32; FLOPS],
 }
 
-// The place of each flop in the order; 0 for one that does not stand in it.
-fn places_in(order: &[u32]) -> [u32; FLOPS]
-    requires { ⌜ length (now order) ≤ 256 ⌝ }
-    ensures { λ r. ⌜ ((f : ℕ) → f < 256 → getD r f 0 ≡ placed-from 0 (now (order .entry)) f) ⌝ }
+// Writes the place of each flop in the order; one that does not stand in it keeps its 0.
+fn place_flops(order: &[u32], places: &mut [u32])
+    requires { ⌜ length (now order) ≤ 256 ⌝ ∗ ⌜ now places ≡ replicate 256 0 ⌝ }
+    ensures { λ _. ⌜ Placed (now (order .entry)) (now (places .exit)) ⌝ }
 {
-    let mut places = [0; FLOPS];
     for j in (0..order.len()).rev() {
         let flop = order[j] as usize;
-        if flop < FLOPS {
+        if flop < places.len() {
             places[flop] = j as u32;
         }
     }
+}
+
+fn places_in(order: &[u32]) -> [u32; FLOPS]
+    requires { ⌜ length (now order) ≤ 256 ⌝ }
+    ensures { λ r. ⌜ Placed (now (order .entry)) r ⌝ }
+{
+    let mut places = [0; FLOPS];
+    place_flops(order, &mut places);
     places
 }
 
@@ -55,8 +62,8 @@ fn judge_flop(order: &[u32], place: u32, flop: u32) -> Result<(), MatchFault>
 }
 
 // Judges whether each of `flops` flops stands in an order of as many entries.
-fn judge_flops(order: &[u32], places: &[u32; FLOPS], flops: u32) -> Result<(), MatchFault>
-    requires { ⌜ length (now order) ≡ flops ⌝ ∗ ⌜ flops ≤ 256 ⌝ ∗ ⌜ ((f : ℕ) → f < 256 → getD (now places) f 0 ≡ placed-from 0 (now order) f) ⌝ }
+fn judge_flops(order: &[u32], places: &[u32], flops: u32) -> Result<(), MatchFault>
+    requires { ⌜ length (now order) ≡ flops ⌝ ∗ ⌜ flops ≤ 256 ⌝ ∗ ⌜ length (now places) ≡ 256 ⌝ ∗ ⌜ Placed (now order) (now places) ⌝ }
     ensures { λ r. ⌜ r ≡ unless-due (map (flop-check (now (order .entry))) (counting 0 flops)) tt ⌝ }
 {
     for flop in 0..flops {
@@ -69,7 +76,7 @@ fn judge_flops(order: &[u32], places: &[u32; FLOPS], flops: u32) -> Result<(), M
 fn judge_order(order: &[u32], flops: u32) -> Result<[u32; FLOPS], MatchFault>
     requires { ⌜ flops ≤ 256 ⌝ }
     ensures answer { λ r. ⌜ meant (λ _. tt {0}) r ≡ unless-due (match-checks flops (now (order .entry))) (tt {0}) ⌝ }
-    ensures places { λ r. ⌜ made r (λ places. (f : ℕ) → f < 256 → getD places f 0 ≡ placed-from 0 (now (order .entry)) f) ⌝ }
+    ensures places { λ r. ⌜ made r (Placed (now (order .entry))) ⌝ }
 {
     if order.len() != flops as usize {
         return Err(MatchFault::WrongLength);

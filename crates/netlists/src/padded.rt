@@ -21,7 +21,7 @@ use circuits::dummy::Dummy;
 pub const MOST_DUMMIES: usize = 16;
 
 // The circuit below with a flop for each lent dummy.
-#[derive_where(Clone, Copy)]
+#[derive(Drop)]
 pub struct Padded<'a, 'd, C: Circuit> {
     below: &'a C,
     dummies: &'d [Dummy],

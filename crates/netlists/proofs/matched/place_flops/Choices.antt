@@ -2,7 +2,7 @@ use mathlib.Core.Path.{_≡_}
 use Prim.Native.Nat.{ℕ, _<_}
 use lib.ListN.{length, getD, drop}
 use Rattle.netlists.specs.Matching.{placed-from}
-use Rattle.netlists.proofs.matched.places_in.Given as given
+use Rattle.netlists.proofs.matched.place_flops.Given as given
 
 -- the entries from j on are placed
 abbrev pub Inv-loop-j : given.InvT-loop-j
