@@ -4,13 +4,13 @@ ghost use lib.ListN.{length};
 ghost use Rattle.std.specs.declared.option.Option.the-variants.{Some};
 ghost use Rattle.aiger.specs.Reading.{reading, words-after};
 ghost use Rattle.checker.specs.Summary as spec;
-use aiger::fault::ReadFault;
-use aiger::reading::read;
-use circuits::counts::Counts;
-use circuits::counts::CountsDisplay;
-use netlists::circuit::Circuit;
-use netlists::plain::Plain;
-use netlists::plain::PlainCircuit;
+use netlists::ReadFault;
+use netlists::read;
+use netlists::Counts;
+use netlists::CountsDisplay;
+use netlists::Circuit;
+use netlists::Plain;
+use netlists::PlainCircuit;
 use std::fmt;
 
 // The counts of a circuit, and how many of its flops have pin 0, pin 1 and none.
@@ -48,7 +48,7 @@ impl Summary {
     }
 
     // Reads a netlist into the lent words, and sums up the circuit in them.
-    pub fn of_text(text: &[u8], words: &mut [u32]) -> Result<Summary, ReadFault>
+    pub(crate) fn of_text(text: &[u8], words: &mut [u32]) -> Result<Summary, ReadFault>
         ensures answer { λ r. ⌜ r ≡ spec.summed (reading (length (now (words .entry))) (now (text .entry))) ⌝ }
         ensures written { λ _. ⌜ now (words .exit) ≡ words-after (reading (length (now (words .entry))) (now (text .entry))) (now (words .entry)) ⌝ }
     {

@@ -1,3 +1,4 @@
-// What a circuit is: its counts, and the flops that a padding adds.
+// What a circuit is, and the interface by which circuits of every kind are known.
+pub mod circuit;
 pub mod counts;
 pub mod dummy;

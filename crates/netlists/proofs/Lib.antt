@@ -1,3 +1,1 @@
 pub mod Plains
-pub mod Pads
-pub mod Matches

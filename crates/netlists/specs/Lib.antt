@@ -1,5 +1,1 @@
 pub mod Plain
-pub mod Layers
-pub mod Faults
-pub mod Padding
-pub mod Matching

@@ -9,8 +9,8 @@ ghost use Rattle.circuits.specs.Net.{Net, room};
 ghost use Rattle.netlists.specs.Plain.{Stands-for};
 ghost use Rattle.circuits.specs.Held.{Well-laid, At-most, Gates-low, Rows-low, net-in, row-in, pairs-in, blank};
 ghost use Rattle.circuits.proofs.HeldInWords.{held-bounded};
-use crate::circuit::Circuit;
-use crate::circuit::Gate;
+use circuits::circuit::Circuit;
+use circuits::circuit::Gate;
 use circuits::counts::Counts;
 
 // A circuit of these counts, held in lent words: the operands of each gate, the next literals, the pins, the output literals. Later words

@@ -1,5 +1,5 @@
 // A layer as a line of the list writes it.
-use circuits::dummy::Dummy;
+use netlists::Dummy;
 use std::alloc::Global;
 use std::error::AnyError;
 

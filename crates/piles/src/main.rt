@@ -3,17 +3,17 @@
 mod layer;
 mod told;
 
-use aiger::reading::read;
-use circuits::counts::MOST_WORDS;
+use netlists::read;
+use netlists::MOST_WORDS;
 use layer::Layer;
 use layer::parse_layer;
-use netlists::circuit::Circuit;
-use netlists::matched::Matched;
-use netlists::matched::MatchedCircuit;
-use netlists::padded::Padded;
-use netlists::padded::PaddedCircuit;
-use netlists::plain::Plain;
-use netlists::plain::PlainCircuit;
+use netlists::Circuit;
+use netlists::Matched;
+use netlists::MatchedCircuit;
+use netlists::Padded;
+use netlists::PaddedCircuit;
+use netlists::Plain;
+use netlists::PlainCircuit;
 use std::error::AnyError;
 use std::fs;
 use told::tell;

@@ -1,8 +1,8 @@
 // What is printed of a circuit or of a refusal.
-use circuits::counts::CountsDisplay;
-use netlists::circuit::Circuit;
-use netlists::fault::MatchFault;
-use netlists::fault::PadFault;
+use netlists::CountsDisplay;
+use netlists::Circuit;
+use netlists::MatchFault;
+use netlists::PadFault;
 use std::error::AnyError;
 
 // At most so many answers of a kind are printed.

@@ -1,7 +1,7 @@
 // Reads sample netlists and prints what each reading answered. A line of `list` has how many words are lent, and the
 // files whose bytes, one after the other, are the text.
-use circuits::counts::CountsDisplay;
-use aiger::reading::read;
+use netlists::CountsDisplay;
+use netlists::read;
 use std::error::AnyError;
 use std::fs;
 

@@ -1,0 +1,4 @@
+pub mod Layers
+pub mod Faults
+pub mod Padding
+pub mod Matching

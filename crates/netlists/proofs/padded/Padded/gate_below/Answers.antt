@@ -1,9 +1,0 @@
-use Rattle.netlists.proofs.Pads.{gate-raised}
-use Rattle.netlists.proofs.padded.Padded.gate_below.Needs as need
-
-pub returns : need.returns
-returns g c =
-    let n = g .C·Circuit .meaning (c .args .self .now .below .now) in
-    let b = g .C·Circuit .bounded (c .args .self .now .below .now) in
-    let p = gate-raised n b (c .args .self .now .dummies .now) (c .args .i) (c .gate .result .left) (c .gate .result .right) (c .gate .ensures .left) (c .gate .ensures .right) in
-    record { left = p .0; right = p .1 }
