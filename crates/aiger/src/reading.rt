@@ -12,13 +12,13 @@ ghost use Rattle.circuits.specs.Net.{Bounded-counts, layout, operand-words, roo
 ghost use Rattle.aiger.specs.Beside.{beside-result, holding, as-words};
 ghost use Rattle.aiger.specs.Reading as spec;
 ghost use Rattle.aiger.specs.Laws.{Laws};
-use circuits::counts::Counts;
 use crate::fault::ReadFault;
 use crate::fault::Refusal;
 use crate::lines::FlopLine;
 use crate::lines::GateLine;
 use crate::lines::Header;
 use crate::lines::Lines;
+use circuits::counts::Counts;
 
 fn counts_fit(h: &Header) -> bool
     ensures { λ r. ⌜ r ≡ spec.counts-fit (now (h .entry)) ⌝ }

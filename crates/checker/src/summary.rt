@@ -4,13 +4,13 @@ ghost use lib.ListN.{length};
 ghost use Rattle.std.specs.declared.option.Option.the-variants.{Some};
 ghost use Rattle.aiger.specs.Reading.{reading, words-after};
 ghost use Rattle.checker.specs.Summary as spec;
-use netlists::ReadFault;
-use netlists::read;
+use netlists::Circuit;
 use netlists::Counts;
 use netlists::CountsDisplay;
-use netlists::Circuit;
 use netlists::Plain;
 use netlists::PlainCircuit;
+use netlists::ReadFault;
+use netlists::read;
 use std::fmt;
 
 // The counts of a circuit, and how many of its flops have pin 0, pin 1 and none.

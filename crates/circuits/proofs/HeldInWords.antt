@@ -27,7 +27,7 @@ module _ {X : Type 0} (f : ℕ → X) (n : ℕ) where
   made-keeps : (P : X → Type 0) (d : X) → ((k : ℕ) → k < n → P (f k)) → All P (map f (counting 0 n))
   made-keeps P d h =
       all-from-getD P (map f (counting 0 n)) d (λ k l.
-        let l′ : k < n = omega (arith, length-map-counting f 0 n) in subst P (made-at k d l′) (h k l′))
+      let l′ : k < n = omega (arith, length-map-counting f 0 n) in subst P (made-at k d l′) (h k l′))
 
   made-kept : (P : X → Type 0) (d : X) → All P (map f (counting 0 n)) → (k : ℕ) → k < n → P (f k)
   made-kept P d a k l =
@@ -37,7 +37,7 @@ module _ {X : Type 0} (f : ℕ → X) (n : ℕ) where
   made-is : (xs : List X) (d : X) → length xs ≡ n → ((k : ℕ) → k < n → f k ≡ getD xs k d) → map f (counting 0 n) ≡ xs
   made-is xs d e h =
       ext-getD d (map f (counting 0 n)) xs (length-map-counting f 0 n ∙ sym e) (λ k l.
-        let l′ : k < n = omega (arith, length-map-counting f 0 n) in sym (made-at k d l′) ∙ h k l′)
+      let l′ : k < n = omega (arith, length-map-counting f 0 n) in sym (made-at k d l′) ∙ h k l′)
 
 module _ (c : Counts) (words : List ℕ) where
   pub held-bounded : Well-laid c words → Bounded (net-in c words)
@@ -85,8 +85,8 @@ pair-words (g ∷ gs) later (suc i) h =
 row-between : (front row back : List ℕ) (from count : ℕ) → length front ≡ from → length row ≡ count → row-in from count (front ++ (row ++ back)) ≡ row
 row-between front row back from count e d =
     made-is (λ k. getD (front ++ (row ++ back)) (from + k) 0) count row 0 d (λ k l.
-      ap (λ m. getD (front ++ (row ++ back)) (m + k) 0) (sym e) ∙ getD-append-add front (row ++ back) k 0
-      ∙ getD-append-left row back 0 k (omega arith))
+    ap (λ m. getD (front ++ (row ++ back)) (m + k) 0) (sym e) ∙ getD-append-add front (row ++ back) k 0
+    ∙ getD-append-left row back 0 k (omega arith))
 
 -- the circuit is read off from its layout
 net-in-layout : (n : Net) (later : List ℕ) → Bounded n → net-in (n .counts) (layout n ++ later) ≡ n
@@ -99,20 +99,20 @@ net-in-layout n later b =
     let e₀ : ws ≡ ops ++ ((n .nexts ++ (n .pins ++ n .outs)) ++ later) = append-assoc ops _ later in
     let e₁ : ws ≡ ops ++ (n .nexts ++ ((n .pins ++ n .outs) ++ later)) = e₀ ∙ ap (λ r. ops ++ r) (append-assoc (n .nexts) _ later) in
     let e₂ : ws ≡ (ops ++ n .nexts) ++ (n .pins ++ (n .outs ++ later)) =
-      e₁ ∙ ap (λ r. ops ++ (n .nexts ++ r)) (append-assoc (n .pins) (n .outs) later) ∙ sym (append-assoc ops (n .nexts) _) in
+    e₁ ∙ ap (λ r. ops ++ (n .nexts ++ r)) (append-assoc (n .pins) (n .outs) later) ∙ sym (append-assoc ops (n .nexts) _) in
     let e₃ : ws ≡ ((ops ++ n .nexts) ++ n .pins) ++ (n .outs ++ later) = e₂ ∙ sym (append-assoc (ops ++ n .nexts) (n .pins) _) in
     let l₂ = length-append ops (n .nexts) in let l₃ = length-append (ops ++ n .nexts) (n .pins) in
     let gates : pairs-in (c .gates) ws ≡ n .operands =
-      made-is (λ k. (getD ws (2 * k) 0, getD ws (2 * k + 1) 0)) (c .gates) (n .operands) (0, 0) lo (λ k l.
-        ap (λ (w : List ℕ). (getD w (2 * k) 0, getD w (2 * k + 1) 0)) e₀ ∙ pair-words (n .operands) _ k (omega arith)) in
+    made-is (λ k. (getD ws (2 * k) 0, getD ws (2 * k + 1) 0)) (c .gates) (n .operands) (0, 0) lo (λ k l.
+    ap (λ (w : List ℕ). (getD w (2 * k) 0, getD w (2 * k + 1) 0)) e₀ ∙ pair-words (n .operands) _ k (omega arith)) in
     let nexts : row-in (2 * c .gates) (c .flops) ws ≡ n .nexts =
-      ap (row-in (2 * c .gates) (c .flops)) e₁ ∙ row-between ops (n .nexts) _ (2 * c .gates) (c .flops) (omega arith) ln in
+    ap (row-in (2 * c .gates) (c .flops)) e₁ ∙ row-between ops (n .nexts) _ (2 * c .gates) (c .flops) (omega arith) ln in
     let pins : row-in (2 * c .gates + c .flops) (c .flops) ws ≡ n .pins =
-      ap (row-in (2 * c .gates + c .flops) (c .flops)) e₂
-      ∙ row-between (ops ++ n .nexts) (n .pins) _ (2 * c .gates + c .flops) (c .flops) (omega arith) lp in
+    ap (row-in (2 * c .gates + c .flops) (c .flops)) e₂
+    ∙ row-between (ops ++ n .nexts) (n .pins) _ (2 * c .gates + c .flops) (c .flops) (omega arith) lp in
     let outs : row-in (2 * c .gates + 2 * c .flops) (c .outputs) ws ≡ n .outs =
-      ap (row-in (2 * c .gates + 2 * c .flops) (c .outputs)) e₃
-      ∙ row-between ((ops ++ n .nexts) ++ n .pins) (n .outs) later (2 * c .gates + 2 * c .flops) (c .outputs) (omega arith) (b .outs-are) in
+    ap (row-in (2 * c .gates + 2 * c .flops) (c .outputs)) e₃
+    ∙ row-between ((ops ++ n .nexts) ++ n .pins) (n .outs) later (2 * c .gates + 2 * c .flops) (c .outputs) (omega arith) (b .outs-are) in
     same-net (net-in c ws) n refl gates nexts pins outs
 
 -- the words of a row and of pairs are a part of all
@@ -120,7 +120,7 @@ row-words : (words : List ℕ) (from count : ℕ) → from + count ≤ length wo
 row-words words from count h =
     let l = length-take count (drop from words) in let l′ = length-drop from words in
     made-is (λ k. getD words (from + k) 0) count (take count (drop from words)) 0 (omega arith) (λ k i.
-      sym (getD-take count (drop from words) k 0 i ∙ getD-drop from words k 0))
+    sym (getD-take count (drop from words) k 0 i ∙ getD-drop from words k 0))
 
 pair-part : (words : List ℕ) (a n : ℕ) → 2 * (a + n) ≤ length words
     → operand-words (map (λ k. (getD words (2 * k) 0, getD words (2 * k + 1) 0)) (counting a n)) ≡ take (2 * n) (drop (2 * a) words)
@@ -129,7 +129,7 @@ pair-part words a (suc n) h =
     let x : ℕ = getD words (2 * a) 0 in let y : ℕ = getD words (2 * a + 1) 0 in
     let t : 2 * suc n ≡ suc (suc (2 * n)) = omega arith in
     let d : drop (2 * a) words ≡ x ∷ (y ∷ drop (2 * a + 1 + 1) words) =
-      drop-more words (2 * a) 0 (omega arith) ∙ ap (λ r. x ∷ r) (drop-more words (2 * a + 1) 0 (omega arith)) in
+    drop-more words (2 * a) 0 (omega arith) ∙ ap (λ r. x ∷ r) (drop-more words (2 * a + 1) 0 (omega arith)) in
     let s : 2 * (a + 1) ≡ 2 * a + 1 + 1 = omega arith in
     ap (λ r. x ∷ (y ∷ r)) (pair-part words (a + 1) n (omega arith) ∙ ap (λ m. take (2 * n) (drop m words)) s)
     ∙ sym (ap (λ m. take m (drop (2 * a) words)) t ∙ ap (take (suc (suc (2 * n)))) d)
@@ -148,13 +148,13 @@ laid-front c words h =
     ap (λ m. take m words) r
     ∙ take-split g (l + (l + o)) words
     ∙ ap (λ r. take g words ++ r) (take-split l (l + o) (drop g words)
-      ∙ ap (λ r. take l (drop g words) ++ r) (ap (take (l + o)) (drop-drop l g words) ∙ take-split l o (drop (g + l) words)
-        ∙ ap (λ r. take l (drop (g + l) words) ++ take o r) (drop-drop l (g + l) words ∙ ap (λ m. drop m words) (sym e))))
+    ∙ ap (λ r. take l (drop g words) ++ r) (ap (take (l + o)) (drop-drop l g words) ∙ take-split l o (drop (g + l) words)
+    ∙ ap (λ r. take l (drop (g + l) words) ++ take o r) (drop-drop l (g + l) words ∙ ap (λ m. drop m words) (sym e))))
     ∙ sym (
-      ap (λ r. r ++ (row-in g l words ++ (row-in (g + l) l words ++ row-in (g + 2 * l) o words))) (pair-part words 0 (c .gates) (omega arith))
-      ∙ ap (λ r. take g words ++ (r ++ (row-in (g + l) l words ++ row-in (g + 2 * l) o words))) (row-words words g l (omega arith))
-      ∙ ap (λ r. take g words ++ (take l (drop g words) ++ (r ++ row-in (g + 2 * l) o words))) (row-words words (g + l) l (omega arith))
-      ∙ ap (λ r. take g words ++ (take l (drop g words) ++ (take l (drop (g + l) words) ++ r))) (row-words words (g + 2 * l) o (omega arith))
+    ap (λ r. r ++ (row-in g l words ++ (row-in (g + l) l words ++ row-in (g + 2 * l) o words))) (pair-part words 0 (c .gates) (omega arith))
+    ∙ ap (λ r. take g words ++ (r ++ (row-in (g + l) l words ++ row-in (g + 2 * l) o words))) (row-words words g l (omega arith))
+    ∙ ap (λ r. take g words ++ (take l (drop g words) ++ (r ++ row-in (g + 2 * l) o words))) (row-words words (g + l) l (omega arith))
+    ∙ ap (λ r. take g words ++ (take l (drop g words) ++ (take l (drop (g + l) words) ++ r))) (row-words words (g + 2 * l) o (omega arith))
     )
 
 module _ (c : Counts) (words : List ℕ) where

@@ -13,9 +13,9 @@ module _ (n : Net) (b : Bounded n) where
   pub gate-low : (i : ℕ) → (gate-at n i .0 ≤ top (n .counts)) × (gate-at n i .1 ≤ top (n .counts))
   gate-low i =
       ⊎-elim (λ h. let o = b .operands-in i h in let l = o .0 in let r = o .1 in (omega arith, omega arith))
-        (λ h. subst (λ (g : ℕ × ℕ). (g .0 ≤ top (n .counts)) × (g .1 ≤ top (n .counts)))
-          (sym (getD-past (n .operands) i (0, 0) (omega (arith, b .operands-are)))) (omega arith, omega arith))
-        (cases-lt i (n .counts .gates))
+      (λ h. subst (λ (g : ℕ × ℕ). (g .0 ≤ top (n .counts)) × (g .1 ≤ top (n .counts)))
+      (sym (getD-past (n .operands) i (0, 0) (omega (arith, b .operands-are)))) (omega arith, omega arith))
+      (cases-lt i (n .counts .gates))
 
   pub next-low : (j : ℕ) → next-at n j ≤ top (n .counts)
   next-low = any-getD (λ x. x ≤ top (n .counts)) (n .nexts) 0 (omega arith) (b .nexts-in)

@@ -71,7 +71,7 @@ module _ (n : Net) (ds : List Dummy) where
       → next-at (padded n ds) j ≡ renumbered (moved-up (n .counts) (length ds)) (next-at n j)
   padded-next-other j b =
       ⊎-elim (padded-next-own j b) (λ h.
-        padded-next-past j b h ∙ sym (ap (renumbered to) (getD-past (n .nexts) j 0 (omega (arith, b .nexts-are))) ∙ zero-kept))
+      padded-next-past j b h ∙ sym (ap (renumbered to) (getD-past (n .nexts) j 0 (omega (arith, b .nexts-are))) ∙ zero-kept))
 
   pub padded-pin-other : (j : ℕ) → Bounded n → (j < n .counts .flops) ⊎ (n .counts .flops + length ds ≤ j) → pin-at (padded n ds) j ≡ pin-at n j
   padded-pin-other j b =

@@ -36,11 +36,11 @@ padded-bounded n ds b f =
     let Low : ℕ → Type 0 = λ x. x ≤ top c in
     let Low′ : ℕ → Type 0 = λ x. x ≤ top c′ in
     let all-low : (xs : List ℕ) → All Low xs → All Low′ (map (renumbered to) xs) = λ xs h.
-        all-map Low′ (renumbered to) xs (all-weaker Low (λ x. Low′ (renumbered to x)) (λ x l. omega (arith, up-le x)) xs h) in
+    all-map Low′ (renumbered to) xs (all-weaker Low (λ x. Low′ (renumbered to x)) (λ x l. omega (arith, up-le x)) xs h) in
     let dummies-low : All Low (map (λ d. d .next) ds) =
-        all-map Low (λ d. d .next) ds (all-weaker (Fits c) (λ d. d .next ≤ top c) (λ _ h. h .0) ds (f .1)) in
+    all-map Low (λ d. d .next) ds (all-weaker (Fits c) (λ d. d .next ≤ top c) (λ _ h. h .0) ds (f .1)) in
     let dummy-pins : All (λ p. p ≤ 2) (map (λ d. d .pin) ds) =
-        all-map (λ p. p ≤ 2) (λ d. d .pin) ds (all-weaker (Fits c) (λ d. d .pin ≤ 2) (λ _ h. h .1) ds (f .1)) in
+    all-map (λ p. p ≤ 2) (λ d. d .pin) ds (all-weaker (Fits c) (λ d. d .pin ≤ 2) (λ _ h. h .1) ds (f .1)) in
     record {
       counts-in = record {
         few-inputs = b .counts-in .few-inputs;
@@ -65,9 +65,10 @@ padded-bounded n ds b f =
 
 pub fitted-fits : (c : Counts) (ds : List Dummy) → Bounded-counts c → Fitting c (fitted c ds)
 fitted-fits c ds b =
-    let ds′ : List Dummy = take (256 - c .flops) ds in
-    ( omega (arith, fitted-length c ds, b .few-flops)
-    , all-map (Fits c) (fit c) ds′ (all-from-every (λ d. Fits c (fit c d)) ds′ (λ _ d _ _. (omega arith, omega arith))) )
+    let ds′ : List Dummy = take (256 - c .flops) ds in (
+      omega (arith, fitted-length c ds, b .few-flops),
+      all-map (Fits c) (fit c) ds′ (all-from-every (λ d. Fits c (fit c d)) ds′ (λ _ d _ _. (omega arith, omega arith))),
+    )
 
 fit-same : (c : Counts) (ds : List Dummy) → All (Fits c) ds → map (fit c) ds ≡ ds
 fit-same c [] h = refl
@@ -102,9 +103,9 @@ module _ (n : Net) (ds : List Dummy) (state held inputs : List Bool) (l : length
       let own : List Bool = first false f state in
       let all : List Bool = first false (f + length ds) (state ++ held) in
       let e : take f all ≡ own =
-          take-map-counting (λ k. getD (state ++ held) k false) 0 (f + length ds) f (omega arith)
-          ∙ sym (fill-by-all (λ k. getD (state ++ held) k false) state f false l (λ k h. sym (getD-append-left state held false k (omega arith))))
-          ∙ fill-by-all (λ k. getD state k false) state f false l (λ k h. refl) in
+      take-map-counting (λ k. getD (state ++ held) k false) 0 (f + length ds) f (omega arith)
+      ∙ sym (fill-by-all (λ k. getD (state ++ held) k false) state f false l (λ k h. sym (getD-append-left state held false k (omega arith))))
+      ∙ fill-by-all (λ k. getD state k false) state f false l (λ k h. refl) in
       let split : all ≡ own ++ drop f all = sym (take-append-drop f all) ∙ ap (λ xs. xs ++ drop f all) e in
       (drop f all, ap (λ xs. front ++ xs) split ∙ sym (append-assoc front own (drop f all)))
 

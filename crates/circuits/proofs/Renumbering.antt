@@ -25,7 +25,7 @@ module _ (to : ℕ → ℕ) (below above : List Bool) (a : Agree to below above)
   pub same-everywhere : (v : ℕ) → getD above (to v) false ≡ getD below v false
   same-everywhere v =
       ⊎-elim (a .same v) (λ h. getD-past above (to v) false (omega (arith, past-end v h)) ∙ sym (getD-past below v false h))
-        (cases-lt v (length below))
+      (cases-lt v (length below))
 
   pub same-value : (x : ℕ) → value above (renumbered to x) ≡ value below x
   same-value x =
@@ -41,14 +41,14 @@ module _ (to : ℕ → ℕ) (below above : List Bool) (a : Agree to below above)
       record {
         inside = λ v h. ⊎-elim (λ l. omega (arith, a .inside v l)) (λ l. omega (arith, past-end v l)) (cases-lt v (length below));
         same = λ v h.
-          ⊎-elim (λ l. getD-append-left above more false (to v) (a .inside v l) ∙ a .same v l ∙ sym (getD-append-left below more false v l))
+            ⊎-elim (λ l. getD-append-left above more false (to v) (a .inside v l) ∙ a .same v l ∙ sym (getD-append-left below more false v l))
             (λ l.
-              ap (λ m. getD (above ++ more) m false) (past-end v l) ∙ getD-append-add above more (v - length below) false
-              ∙ sym (getD-append-right below more (length below) v false refl l))
+            ap (λ m. getD (above ++ more) m false) (past-end v l) ∙ getD-append-add above more (v - length below) false
+            ∙ sym (getD-append-right below more (length below) v false refl l))
             (cases-lt v (length below));
         onward = λ i.
-          let e : length (below ++ more) + i ≡ length below + (length more + i) = omega arith in
-          ap to e ∙ a .onward (length more + i) ∙ omega arith;
+            let e : length (below ++ more) + i ≡ length below + (length more + i) = omega arith in
+            ap to e ∙ a .onward (length more + i) ∙ omega arith;
       }
 
 -- the values of the gates are the same

@@ -14,6 +14,12 @@ pub record Holds (c : Counts) (words : List ℕ) (n : Net) : Type 0 where
   pub counted : n .counts ≡ c
   pub laid : take (room c) words ≡ layout n
 
+-- the circuit with no input, flop or gate, and one output, which is false
+abbrev pub blank : Net
+blank = record { counts = record { inputs = 0; flops = 0; gates = 0; outputs = 1 }; operands = []; nexts = []; pins = []; outs = 0 ∷ [] }
+
+-- The same word by word, as code sees it.
+
 -- so many words from a place on, and as many pairs of words from the front
 abbrev pub row-in : ℕ → ℕ → List ℕ → List ℕ
 row-in from count words = map (λ k. getD words (from + k) 0) (counting 0 count)
@@ -49,7 +55,3 @@ Rows-low c words =
 -- what makes words hold a circuit of these counts, word by word
 abbrev pub Well-laid : Counts → List ℕ → Type 0
 Well-laid c words = (in-bounds c ≡ true) × (room c ≤ length words) × Gates-low c words × Rows-low c words
-
--- the circuit with no input, flop or gate, and one output, which is false
-abbrev pub blank : Net
-blank = record { counts = record { inputs = 0; flops = 0; gates = 0; outputs = 1 }; operands = []; nexts = []; pins = []; outs = 0 ∷ [] }

@@ -28,7 +28,8 @@ use Rattle.circuits.proofs.Orders.{at-place, place-le}
 use Rattle.layers.specs.declared.fault.MatchFault.{MatchFault}
 use Rattle.layers.specs.declared.fault.MatchFault.the-variants.{Unmatched}
 use Rattle.layers.specs.Layers.{meant}
-use Rattle.layers.specs.Matching.{flop-check, match-checks, matching, Matches-orders, placed-from, Placed, Renamed, Stands-at}
+use Rattle.layers.specs.Matching.{flop-check, match-checks, matching, Matches-orders}
+use Rattle.layers.specs.MatchedAnswers.{placed-from, Placed, Renamed, Stands-at}
 
 -- at the front of p, where b says that the front is f
 front-is : (b : Bool) (k a m : ℕ) → (b ≡ false → a ≡ k + 1 + m) → cond b k a ≡ k + cond b 0 (suc m)
@@ -44,7 +45,7 @@ pub placed-is : (k : ℕ) (p : List ℕ) (f : ℕ) → place p f < length p → 
 placed-is k [] f h = absurd (omega arith)
 placed-is k (g ∷ p) f h =
     front-is (eqb g f) k (placed-from (k + 1) p f) (place p f) (λ e.
-      let l : place (g ∷ p) f ≡ suc (place p f) = cond-false (eqb g f) 0 (suc (place p f)) e in placed-is (k + 1) p f (omega arith))
+    let l : place (g ∷ p) f ≡ suc (place p f) = cond-false (eqb g f) 0 (suc (place p f)) e in placed-is (k + 1) p f (omega arith))
 
 pub placed-not : (k : ℕ) (p : List ℕ) (f : ℕ) → length p ≤ place p f → placed-from k p f ≡ 0
 placed-not k [] f h = refl
@@ -71,11 +72,11 @@ module _ (p : List ℕ) where
       placed-here h f k =
           let g = getD p (j - 1) 0 in
           ⊎-elim
-            (λ (e : g ≡ f). ap (λ i. getD (set places g (j - 1)) i 0) (sym e) ∙ getD-set-same places g (j - 1) 0 (omega arith)
-              ∙ sym (one-more f ∙ cond-true (eqb g f) (j - 1) _ (eq-eqb g f e)))
-            (λ (ne : g ≡ f → ⊥). getD-set-other places g f (j - 1) 0 (λ e. ne (sym e)) ∙ inv f k
-              ∙ sym (one-more f ∙ cond-false (eqb g f) (j - 1) _ (ne-eqb g f ne)))
-            (cases-eq g f)
+          (λ (e : g ≡ f). ap (λ i. getD (set places g (j - 1)) i 0) (sym e) ∙ getD-set-same places g (j - 1) 0 (omega arith)
+          ∙ sym (one-more f ∙ cond-true (eqb g f) (j - 1) _ (eq-eqb g f e)))
+          (λ (ne : g ≡ f → ⊥). getD-set-other places g f (j - 1) 0 (λ e. ne (sym e)) ∙ inv f k
+          ∙ sym (one-more f ∙ cond-false (eqb g f) (j - 1) _ (ne-eqb g f ne)))
+          (cases-eq g f)
 
 -- One flop: what stands at its place.
 module _ (p : List ℕ) (f : ℕ) where
@@ -89,7 +90,7 @@ module _ (p : List ℕ) (f : ℕ) where
   pub stands-not : 0 < length p → (getD p (placed-from 0 p f) 0 ≡ f → ⊥) → length p ≤ place p f
   stands-not h ne =
       ⊎-elim (λ k. absurd (ne (ap (λ i. getD p i 0) (let e = placed-is 0 p f k in let r : placed-from 0 p f ≡ place p f = omega arith in r) ∙ at-place p f 0 k)))
-        (λ k. k) (cases-lt (place p f) (length p))
+      (λ k. k) (cases-lt (place p f) (length p))
 
   pub flop-named : place p f < length p → Ok (tt {0}) ≡ unless-due (flop-check p f ∷ []) (tt {0})
   flop-named h = rw (lt-leb (length p) (place p f) h)
@@ -114,25 +115,29 @@ module _ (p : List ℕ) (l k : ℕ) (h : k < l) where
 pub matches-orders : (l : ℕ) (p : List ℕ) → Matches-orders l p
 matches-orders l p =
     let lc = length-counting 0 l in
-    let each : (f : ℕ) → f < l → getD (counting 0 l) f 0 ≡ f = λ f h. getD-counting 0 l f 0 h ∙ omega arith in
-    ( (λ e.
-        let a = all-passed (match-checks l p) e in
-        let n : length p ≡ l = eqb-true (length p) l (not-false _ (a .0)) in
-        (n, λ f h.
-          let t = all-getD (λ (c : Check MatchFault). c .1 ≡ false) (map (flop-check p) (counting 0 l)) f (flop-check p f)
-            (omega (arith, length-map-counting (flop-check p) 0 l)) (a .1) in
-          let d : getD (map (flop-check p) (counting 0 l)) f (flop-check p f) ≡ flop-check p f
-            = getD-map-counting (flop-check p) 0 l f f (flop-check p f) h (omega arith) in
-          let k = leb-false (length p) (place p f) (ap (λ (c : Check MatchFault). c .1) (sym d) ∙ t) in omega arith))
-    , (λ o.
-        let n = o .0 in
-        none-due (match-checks l p)
-          ( not-from-true (eqb (length p) l) (eq-eqb (length p) l n)
-          , all-map (λ (c : Check MatchFault). c .1 ≡ false) (flop-check p) (counting 0 l)
-              (all-from-getD (λ f. leb (length p) (place p f) ≡ false) (counting 0 l) 0 (λ i h.
+    let each : (f : ℕ) → f < l → getD (counting 0 l) f 0 ≡ f = λ f h. getD-counting 0 l f 0 h ∙ omega arith in (
+      (λ e.
+          let a = all-passed (match-checks l p) e in
+          let n : length p ≡ l = eqb-true (length p) l (not-false _ (a .0)) in (
+            n,
+            λ f h.
+                let t = all-getD (λ (c : Check MatchFault). c .1 ≡ false) (map (flop-check p) (counting 0 l)) f (flop-check p f)
+                (omega (arith, length-map-counting (flop-check p) 0 l)) (a .1) in
+                let d : getD (map (flop-check p) (counting 0 l)) f (flop-check p f) ≡ flop-check p f
+                = getD-map-counting (flop-check p) 0 l f f (flop-check p f) h (omega arith) in
+                let k = leb-false (length p) (place p f) (ap (λ (c : Check MatchFault). c .1) (sym d) ∙ t) in omega arith,
+          )),
+      (λ o.
+          let n = o .0 in
+          none-due (match-checks l p) (
+            not-from-true (eqb (length p) l) (eq-eqb (length p) l n),
+            all-map (λ (c : Check MatchFault). c .1 ≡ false) (flop-check p) (counting 0 l)
+                (all-from-getD (λ f. leb (length p) (place p f) ≡ false) (counting 0 l) 0 (λ i h.
                 let k : i < l = omega arith in
                 let m = o .1 i k in
-                subst (λ (f : ℕ). leb (length p) (place p f) ≡ false) (sym (each i k)) (lt-leb (length p) (place p i) (omega arith)))) )) )
+                subst (λ (f : ℕ). leb (length p) (place p f) ≡ false) (sym (each i k)) (lt-leb (length p) (place p i) (omega arith)))),
+          )),
+    )
 
 -- an answer of the checks, as the answer of a matching
 module _ (n : Net) (b : Bounded n) (p : List ℕ) where
@@ -157,9 +162,10 @@ module _ (n : Net) (p places : List ℕ) where
   pub gate-renamed : (i x y : ℕ) → x ≡ gate-at n i .0 → y ≡ gate-at n i .1
       → Renamed n places (gate-at (wired n p places) i .0) x × Renamed n places (gate-at (wired n p places) i .1) y
   gate-renamed i x y e d =
-      let at = wired-gate n p places i in
-      ( ap (λ (g : ℕ × ℕ). g .0) at ∙ ap (renumbered (rewiring n places)) (sym e)
-      , ap (λ (g : ℕ × ℕ). g .1) at ∙ ap (renumbered (rewiring n places)) (sym d) )
+      let at = wired-gate n p places i in (
+        ap (λ (g : ℕ × ℕ). g .0) at ∙ ap (renumbered (rewiring n places)) (sym e),
+        ap (λ (g : ℕ × ℕ). g .1) at ∙ ap (renumbered (rewiring n places)) (sym d),
+      )
 
   pub out-renamed : (j x : ℕ) → x ≡ out-at n j → Renamed n places (out-at (wired n p places) j) x
   out-renamed j x e = wired-out n p places j ∙ ap (renumbered (rewiring n places)) (sym e)
@@ -173,6 +179,6 @@ module _ (n : Net) (p places : List ℕ) where
   pub stands-past : Bounded n → (j : ℕ) → n .counts .flops ≤ j → Stands-at n p places j j
   stands-past b j h = record {
     next-is = wired-next-past n p places j h
-      ∙ sym (ap (renumbered (rewiring n places)) (getD-past (n .nexts) j 0 (omega (arith, b .nexts-are))) ∙ zero-kept n places);
+        ∙ sym (ap (renumbered (rewiring n places)) (getD-past (n .nexts) j 0 (omega (arith, b .nexts-are))) ∙ zero-kept n places);
     pin-is = wired-pin-past n p places j h ∙ sym (getD-past (n .pins) j 2 (omega (arith, b .pins-are)));
   }

@@ -26,7 +26,8 @@ use Rattle.circuits.proofs.Checking.{all-passed, none-due, due-from-err, none-f
 use Rattle.circuits.proofs.Paddings.{fitted-same, padding-laws}
 use Rattle.layers.specs.declared.fault.PadFault.{PadFault}
 use Rattle.layers.specs.Layers.{meant}
-use Rattle.layers.specs.Padding.{each-checked, pad-checks, padding, Pads-fitting, Raised, Found}
+use Rattle.layers.specs.Padding.{each-checked, pad-checks, padding, Pads-fitting}
+use Rattle.layers.specs.PaddedAnswers.{Raised, Found}
 
 abbrev Passed : List (Check PadFault) → Type 0
 Passed = All (λ c. c .1 ≡ false)
@@ -45,9 +46,9 @@ each-passes c k (d ∷ ds) a = (le-ltb (top c) (d .next) (a .0 .0), (le-ltb 2 (d
 pub pads-fitting : (c : Counts) (ds : List Dummy) → Pads-fitting c ds
 pads-fitting c ds = (
   (λ e. let a = all-passed (pad-checks c ds) e in
-    (ltb-false 16 (length ds) (a .0), (ltb-false 256 (c .flops + length ds) (a .1 .0), each-fits c 0 ds (a .1 .1)))),
+      (ltb-false 16 (length ds) (a .0), (ltb-false 256 (c .flops + length ds) (a .1 .0), each-fits c 0 ds (a .1 .1)))),
   (λ f. none-due (pad-checks c ds)
-    (le-ltb 16 (length ds) (f .0), (le-ltb 256 (c .flops + length ds) (f .1 .0), each-passes c 0 ds (f .1 .1)))),
+      (le-ltb 16 (length ds) (f .0), (le-ltb 256 (c .flops + length ds) (f .1 .0), each-passes c 0 ds (f .1 .1)))),
 )
 
 -- an answer of the checks, as the answer of a padding
@@ -70,9 +71,10 @@ module _ (n : Net) (b : Bounded n) (ds : List Dummy) where
       → Raised n ds (gate-at (padded-by n ds) i .0) x × Raised n ds (gate-at (padded-by n ds) i .1) y
   gate-raised i x y e d =
       let at = padded-gate n (fitted (n .counts) ds) i in
-      let low = gate-low n b i in let l = low .0 in let r = low .1 in
-      ( record { is = ap (λ (g : ℕ × ℕ). g .0) at ∙ ap (renumbered (raising n ds)) (sym e); low = omega arith }
-      , record { is = ap (λ (g : ℕ × ℕ). g .1) at ∙ ap (renumbered (raising n ds)) (sym d); low = omega arith } )
+      let low = gate-low n b i in let l = low .0 in let r = low .1 in (
+        record { is = ap (λ (g : ℕ × ℕ). g .0) at ∙ ap (renumbered (raising n ds)) (sym e); low = omega arith },
+        record { is = ap (λ (g : ℕ × ℕ). g .1) at ∙ ap (renumbered (raising n ds)) (sym d); low = omega arith },
+      )
 
   pub out-raised : (j x : ℕ) → x ≡ out-at n j → Raised n ds (out-at (padded-by n ds) j) x
   out-raised j x e =
@@ -101,9 +103,9 @@ module _ (n : Net) (b : Bounded n) (ds : List Dummy) where
         let k′ : j - n .counts .flops < length fs = omega arith in
         let at = fitted-at (n .counts) ds (j - n .counts .flops) (record { next = 0; pin = 0 }) k′ in
         let next : getD fs (j - n .counts .flops) (record { next = 0; pin = 0 }) .next ≡ x =
-          ap (λ (y : Dummy). y .next) at ∙ sym (ex ∙ ap (λ m. min (getD ds m (record { next = 0; pin = 0 }) .next) (top (n .counts))) i) in
+        ap (λ (y : Dummy). y .next) at ∙ sym (ex ∙ ap (λ m. min (getD ds m (record { next = 0; pin = 0 }) .next) (top (n .counts))) i) in
         let pin : getD fs (j - n .counts .flops) (record { next = 0; pin = 0 }) .pin ≡ p =
-          ap (λ (y : Dummy). y .pin) at ∙ sym (ep ∙ ap (λ m. min (getD ds m (record { next = 0; pin = 0 }) .pin) 2) i) in
+        ap (λ (y : Dummy). y .pin) at ∙ sym (ep ∙ ap (λ m. min (getD ds m (record { next = 0; pin = 0 }) .pin) 2) i) in
         record {
           next-is = record {
             is = padded-next-dummy n fs j (record { next = 0; pin = 0 }) b h′ k′ ∙ ap (renumbered (raising n ds)) next;

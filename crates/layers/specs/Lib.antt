@@ -1,4 +1,6 @@
 pub mod Layers
 pub mod Faults
 pub mod Padding
+pub mod PaddedAnswers
 pub mod Matching
+pub mod MatchedAnswers

@@ -1,20 +1,17 @@
 -- What padding a circuit answers.
 use mathlib.Core.Path.{_≡_}
-use mathlib.Core.Bool.{Bool}
 use mathlib.Core.List.{List, [], _∷_, _++_}
 use mathlib.Core.Logic.{_↔_}
 use Prim.Native.Nat.{ℕ, _+_, _≤_}
 use lib.Dec.{ltb}
 use lib.ListN.{length}
-use Rattle.std.specs.declared.option.Option.{Option}
-use Rattle.std.specs.declared.option.Option.the-variants.{Some, None}
+use Rattle.std.specs.declared.option.Option.the-variants.{None}
 use Rattle.std.specs.declared.result.Result.{Result}
 use Rattle.circuits.specs.declared.counts.Counts.{Counts}
 use Rattle.circuits.specs.declared.dummy.Dummy.{Dummy}
 use Rattle.circuits.specs.Checks.{Check, first-due, unless-due}
-use Rattle.circuits.specs.Net.{Net, top, next-at, pin-at}
-use Rattle.circuits.specs.Renumbered.{renumbered}
-use Rattle.circuits.specs.Padded.{padded, padded-by, raising, Fitting}
+use Rattle.circuits.specs.Net.{Net, top}
+use Rattle.circuits.specs.Padded.{padded, Fitting}
 use Rattle.layers.specs.declared.fault.PadFault.{PadFault}
 use Rattle.layers.specs.declared.fault.PadFault.the-variants.{ManyDummies, ManyFlops, LargeLiteral, LargePin}
 
@@ -41,21 +38,3 @@ padding n ds = unless-due (pad-checks (n .counts) ds) (padded n ds)
 -- none is due exactly where at most 16 dummies fit the circuit
 abbrev pub Pads-fitting : Counts → List Dummy → Type 0
 Pads-fitting c ds = (first-due (pad-checks c ds) ≡ None) ↔ ((length ds ≤ 16) × Fitting c ds)
-
--- x is the literal of the circuit below that is this one above
-pub record Raised (n : Net) (ds : List Dummy) (above x : ℕ) : Type 0 where
-  pub is : above ≡ renumbered (raising n ds) x
-  pub low : x ≤ top (n .counts)
-
--- the dummy that flop j is, or none where the circuit below answers for j
-abbrev pub next-found : Net → ℕ → Option Dummy → ℕ
-next-found n j None = next-at n j
-next-found n j (Some d) = d .next
-
-abbrev pub pin-found : Net → ℕ → Option Dummy → ℕ
-pin-found n j None = pin-at n j
-pin-found n j (Some d) = d .pin
-
-pub record Found (n : Net) (ds : List Dummy) (j : ℕ) (o : Option Dummy) : Type 0 where
-  pub next-is : Raised n ds (next-at (padded-by n ds) j) (next-found n j o)
-  pub pin-is : pin-at (padded-by n ds) j ≡ pin-found n j o

@@ -12,10 +12,11 @@ ghost use Rattle.circuits.specs.Renumbered.{renumbered};
 ghost use Rattle.circuits.specs.Matched.{wired, rewiring, Matching-laws};
 ghost use Rattle.circuits.proofs.Matchings.{wired-bounded};
 ghost use Rattle.layers.specs.Layers.{meant};
-ghost use Rattle.layers.specs.Matching.{flop-check, match-checks, matching, Matches-orders, placed-from, Placed, Renamed, Stands-at};
+ghost use Rattle.layers.specs.Matching.{flop-check, match-checks, matching, Matches-orders};
+ghost use Rattle.layers.specs.MatchedAnswers.{placed-from, Placed, Renamed, Stands-at};
+use crate::fault::MatchFault;
 use circuits::circuit::Circuit;
 use circuits::circuit::Gate;
-use crate::fault::MatchFault;
 use circuits::counts::Counts;
 
 // The most flops that a circuit has.

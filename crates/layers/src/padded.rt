@@ -9,11 +9,12 @@ ghost use Rattle.circuits.specs.Net.{Bounded-counts, top, gate-at, next-at, out
 ghost use Rattle.circuits.specs.Renumbered.{renumbered};
 ghost use Rattle.circuits.specs.Padded.{fitted, moved-up, padded-by, Padding-laws};
 ghost use Rattle.circuits.proofs.Paddings.{fitted-bounded};
-ghost use Rattle.layers.specs.Padding.{count-checks, dummy-checks, each-checked, pad-checks, padding, Pads-fitting, Raised, Found};
+ghost use Rattle.layers.specs.Padding.{count-checks, dummy-checks, each-checked, pad-checks, padding, Pads-fitting};
+ghost use Rattle.layers.specs.PaddedAnswers.{Raised, Found};
 ghost use Rattle.layers.specs.Layers.{meant};
+use crate::fault::PadFault;
 use circuits::circuit::Circuit;
 use circuits::circuit::Gate;
-use crate::fault::PadFault;
 use circuits::counts::Counts;
 use circuits::counts::MOST_FLOPS;
 use circuits::dummy::Dummy;

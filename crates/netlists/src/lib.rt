@@ -1,6 +1,8 @@
 // Netlists: AIGER text, and circuits of every kind under one interface. Whoever is above needs this crate alone: what stands in the
 // crates below is passed on.
 pub mod plain;
+#[cfg(test)]
+mod tests;
 
 pub use aiger::fault::ReadFault;
 pub use aiger::fault::Refusal;

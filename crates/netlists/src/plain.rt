@@ -27,7 +27,11 @@ fn word_at(words: &[u32], from: usize, count: u32, j: u32, past: u32) -> u32
     requires { ⌜ from + count ≤ length (now words) ⌝ }
     ensures { λ r. ⌜ r ≡ getD (row-in from count (now (words .entry))) j past ⌝ }
 {
-    if j < count { words[from + j as usize] } else { past }
+    if j < count {
+        words[from + j as usize]
+    } else {
+        past
+    }
 }
 
 // Pair i of the `count` pairs at the front; past the end, zeros.
@@ -36,7 +40,11 @@ fn pair_at(words: &[u32], count: u32, i: u32) -> (u32, u32)
     ensures { λ r. ⌜ r ≡ getD (pairs-in count (now (words .entry))) i (0, 0) ⌝ }
 {
     let at = 2 * i as usize;
-    if i < count { (words[at], words[at + 1]) } else { (0, 0) }
+    if i < count {
+        (words[at], words[at + 1])
+    } else {
+        (0, 0)
+    }
 }
 
 // Whether the `count` words from `from` on are at most `limit`.
@@ -119,7 +127,10 @@ impl<'a> Plain<'a> {
             gates: 0,
             outputs: 1,
         };
-        Plain { counts, words: &[0] }
+        Plain {
+            counts,
+            words: &[0],
+        }
     }
 }
 

@@ -3,17 +3,17 @@
 mod layer;
 mod told;
 
-use netlists::read;
-use netlists::MOST_WORDS;
 use layer::Layer;
 use layer::parse_layer;
 use netlists::Circuit;
+use netlists::MOST_WORDS;
 use netlists::Matched;
 use netlists::MatchedCircuit;
 use netlists::Padded;
 use netlists::PaddedCircuit;
 use netlists::Plain;
 use netlists::PlainCircuit;
+use netlists::read;
 use std::error::AnyError;
 use std::fs;
 use told::tell;

@@ -1,6 +1,6 @@
 // What is printed of a circuit or of a refusal.
-use netlists::CountsDisplay;
 use netlists::Circuit;
+use netlists::CountsDisplay;
 use netlists::MatchFault;
 use netlists::PadFault;
 use std::error::AnyError;

@@ -2,7 +2,7 @@ use mathlib.Core.Path.{_≡_, ap, subst, _∙_}
 use native.Mathlib.Omega.{arith}
 use lib.ListN.{length, getD, drop}
 use Rattle.std.proofs.shelf.Lists.{length-set}
-use Rattle.layers.specs.Matching.{placed-from}
+use Rattle.layers.specs.MatchedAnswers.{placed-from}
 use Rattle.layers.proofs.Matches.{none-placed, passed-by, placed-here}
 use Rattle.layers.proofs.matched.place_flops.Needs as need
 
@@ -13,15 +13,17 @@ loop-j-holds c =
 
 pub loop-j-again-then-flop-places : need.loop-j-again-then-flop-places
 loop-j-again-then-flop-places c =
-    let l = c .loop-j .inv .0 in
-    ( length-set (c .loop-j .places) _ _ ∙ l
-    , placed-here (c .args .order .now) (c .loop-j .j) (c .loop-j-test .taken) (c .loop-j .kept .j) (c .loop-j .places) l (c .loop-j .inv .1) (omega arith) )
+    let l = c .loop-j .inv .0 in (
+      length-set (c .loop-j .places) _ _ ∙ l,
+      placed-here (c .args .order .now) (c .loop-j .j) (c .loop-j-test .taken) (c .loop-j .kept .j) (c .loop-j .places) l (c .loop-j .inv .1) (omega arith),
+    )
 
 pub loop-j-again : need.loop-j-again
 loop-j-again c =
-    let l = c .loop-j .inv .0 in
-    ( l
-    , passed-by (c .args .order .now) (c .loop-j .j) (c .loop-j-test .taken) (c .loop-j .kept .j) (c .loop-j .places) l (c .loop-j .inv .1) (omega arith) )
+    let l = c .loop-j .inv .0 in (
+      l,
+      passed-by (c .args .order .now) (c .loop-j .j) (c .loop-j-test .taken) (c .loop-j .kept .j) (c .loop-j .places) l (c .loop-j .inv .1) (omega arith),
+    )
 
 pub returns : need.returns
 returns c = λ f h.

@@ -1,7 +1,7 @@
 use mathlib.Core.Path.{_≡_}
 use Prim.Native.Nat.{ℕ, _<_}
 use lib.ListN.{length, getD, drop}
-use Rattle.layers.specs.Matching.{placed-from}
+use Rattle.layers.specs.MatchedAnswers.{placed-from}
 use Rattle.layers.proofs.matched.place_flops.Given as given
 
 -- the entries from j on are placed

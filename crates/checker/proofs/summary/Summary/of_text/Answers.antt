@@ -11,6 +11,6 @@ returns c =
     let r = c .in-Continue-counts .ensures tt in
     record {
       answer = ap (λ s. Ok s) (c .of .ensures) ∙ read-summed (length (c .args .words .now)) (c .args .text .now) (c .args .words .now) (c .read .last .words)
-        (c .in-Continue-counts .counts) (net-in (p .counts) (p .words .now)) (r .written) (c .new-plain .ensures) (r .answer);
+          (c .in-Continue-counts .counts) (net-in (p .counts) (p .words .now)) (r .written) (c .new-plain .ensures) (r .answer);
       written = r .written;
     }

@@ -17,7 +17,7 @@ returns-then-j-self g c =
     let n = g .C·Circuit .meaning (c .args .self .now .below .now) in
     let e = ap (λ (k : Counts). k .flops) (c .counts-flops .ensures) in
     stands-inside n (c .args .self .now .order .now) (c .args .self .now .places) (c .args .j) 0 (omega arith)
-      (sym (getD-past (c .args .self .now .order .now) (c .args .j) 0 (c .if-j-self .taken)))
+    (sym (getD-past (c .args .self .now .order .now) (c .args .j) 0 (c .if-j-self .taken)))
 
 pub returns : need.returns
 returns g c =

@@ -5,5 +5,5 @@ pub returns : need.returns
 returns g c =
     let n = g .C·Circuit .meaning (c .args .self .now .below .now) in
     let p = gate-renamed n (c .args .self .now .order .now) (c .args .self .now .places) (c .args .i)
-      (c .gate .result .left) (c .gate .result .right) (c .gate .ensures .left) (c .gate .ensures .right) in
+    (c .gate .result .left) (c .gate .result .right) (c .gate .ensures .left) (c .gate .ensures .right) in
     record { left = p .0; right = p .1 }

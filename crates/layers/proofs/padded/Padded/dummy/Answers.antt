@@ -14,7 +14,7 @@ returns-then-j-counts g c =
     let b = g .C·Circuit .bounded (c .args .self .now .below .now) in
     let is = c .shift-added .ensures .is in
     found-own n b (c .args .self .now .dummies .now) (c .args .j) (c .shift-added .result .counts .flops) (c .shift-added .result .added)
-      (ap (λ (s : Shift). s .counts .flops) is) (ap (λ (s : Shift). s .added) is) (c .if-j-counts .taken)
+    (ap (λ (s : Shift). s .counts .flops) is) (ap (λ (s : Shift). s .added) is) (c .if-j-counts .taken)
 
 pub returns-then-k-added : need.returns-then-k-added
 returns-then-k-added g c =
@@ -22,7 +22,7 @@ returns-then-k-added g c =
     let b = g .C·Circuit .bounded (c .args .self .now .below .now) in
     let is = c .shift-added .ensures .is in
     found-past n b (c .args .self .now .dummies .now) (c .args .j) (c .shift-added .result .counts .flops) (c .shift-added .result .added)
-      (ap (λ (s : Shift). s .counts .flops) is) (ap (λ (s : Shift). s .added) is) (c .if-j-counts .left) (c .if-k-added .taken)
+    (ap (λ (s : Shift). s .counts .flops) is) (ap (λ (s : Shift). s .added) is) (c .if-j-counts .left) (c .if-k-added .taken)
 
 pub index-self-k : need.index-self-k
 index-self-k g c =
@@ -38,5 +38,5 @@ returns g c =
     let is = c .shift-added .ensures .is in
     let t = ap (λ (s : Shift). top (s .counts)) is in
     found-dummy n b (c .args .self .now .dummies .now) (c .args .j) (c .shift-added .result .counts .flops) (c .shift-added .result .added)
-      (ap (λ (s : Shift). s .counts .flops) is) (ap (λ (s : Shift). s .added) is) (c .if-j-counts .left) (c .if-k-added .left)
-      (c .min-next .result) (c .min-pin .result) (omega arith) (c .min-pin .ensures)
+    (ap (λ (s : Shift). s .counts .flops) is) (ap (λ (s : Shift). s .added) is) (c .if-j-counts .left) (c .if-k-added .left)
+    (c .min-next .result) (c .min-pin .result) (omega arith) (c .min-pin .ensures)

@@ -1,7 +1,7 @@
 use mathlib.Core.Path.{sym, subst}
 use Rattle.circuits.specs.Net.{next-at}
 use Rattle.circuits.specs.Padded.{padded-by}
-use Rattle.layers.specs.Padding.{Raised}
+use Rattle.layers.specs.PaddedAnswers.{Raised}
 use Rattle.layers.proofs.padded.Padded.next_below.Needs as need
 
 pub returns-in-None : need.returns-in-None
