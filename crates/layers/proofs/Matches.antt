@@ -17,6 +17,7 @@ use Rattle.std.proofs.shelf.Elements.{all-map, all-getD, all-from-getD}
 use Rattle.std.proofs.shelf.Counted.{length-map-counting, length-counting, getD-counting, getD-map-counting}
 use Rattle.std.proofs.shelf.Lists.{at-drop-more, drop-all, getD-past, getD-replicate, getD-set-same, getD-set-other}
 use Rattle.std.proofs.shelf.Tests.{cases-lt, cases-eq, cond-both, cond-true, cond-false, eq-eqb, ne-eqb, eqb-true, leb-false, le-leb, lt-leb, not-false, not-from-true}
+use Rattle.circuits.specs.declared.circuit.Gate.{Gate}
 use Rattle.circuits.specs.Checks.{Check, first-due, unless-due}
 use Rattle.circuits.specs.Net.{Net, Bounded, gate-at, out-at, next-at, pin-at}
 use Rattle.circuits.specs.Renumbered.{renumbered}
@@ -29,7 +30,7 @@ use Rattle.layers.specs.declared.fault.MatchFault.{MatchFault}
 use Rattle.layers.specs.declared.fault.MatchFault.the-variants.{Unmatched}
 use Rattle.layers.specs.Layers.{meant}
 use Rattle.layers.specs.Matching.{flop-check, match-checks, matching, Matches-orders}
-use Rattle.layers.specs.MatchedAnswers.{placed-from, Placed, Renamed, Stands-at}
+use Rattle.layers.specs.MatchedAnswers.{placed-from, Placed, Gate-renamed, Out-renamed, Stands-at}
 
 -- at the front of p, where b says that the front is f
 front-is : (b : Bool) (k a m : ℕ) → (b ≡ false → a ≡ k + 1 + m) → cond b k a ≡ k + cond b 0 (suc m)
@@ -159,15 +160,15 @@ module _ (n : Net) (b : Bounded n) (p : List ℕ) where
 
 -- What a matching answers, from what the circuit below does.
 module _ (n : Net) (p places : List ℕ) where
-  pub gate-renamed : (i x y : ℕ) → x ≡ gate-at n i .0 → y ≡ gate-at n i .1
-      → Renamed n places (gate-at (wired n p places) i .0) x × Renamed n places (gate-at (wired n p places) i .1) y
-  gate-renamed i x y e d =
-      let at = wired-gate n p places i in (
-        ap (λ (g : ℕ × ℕ). g .0) at ∙ ap (renumbered (rewiring n places)) (sym e),
-        ap (λ (g : ℕ × ℕ). g .1) at ∙ ap (renumbered (rewiring n places)) (sym d),
-      )
+  pub gate-renamed : (i : ℕ) (g : Gate) → g .left ≡ gate-at n i .0 → g .right ≡ gate-at n i .1 → Gate-renamed n p places i g
+  gate-renamed i g e d =
+      let at = wired-gate n p places i in
+      record {
+        left = ap (λ (h : ℕ × ℕ). h .0) at ∙ ap (renumbered (rewiring n places)) (sym e);
+        right = ap (λ (h : ℕ × ℕ). h .1) at ∙ ap (renumbered (rewiring n places)) (sym d);
+      }
 
-  pub out-renamed : (j x : ℕ) → x ≡ out-at n j → Renamed n places (out-at (wired n p places) j) x
+  pub out-renamed : (j x : ℕ) → x ≡ out-at n j → Out-renamed n p places j x
   out-renamed j x e = wired-out n p places j ∙ ap (renumbered (rewiring n places)) (sym e)
 
   pub stands-inside : (j f : ℕ) → j < n .counts .flops → f ≡ getD p j 0 → Stands-at n p places j f

@@ -15,6 +15,7 @@ use Rattle.std.specs.declared.result.Result.the-variants.{Ok, Err}
 use Rattle.std.proofs.shelf.Elements.{all-append}
 use Rattle.std.proofs.shelf.Tests.{ltb-false, le-ltb}
 use Rattle.circuits.specs.declared.counts.Counts.{Counts}
+use Rattle.circuits.specs.declared.circuit.Gate.{Gate}
 use Rattle.circuits.specs.declared.dummy.Dummy.{Dummy}
 use Rattle.circuits.specs.Checks.{Check, first-due, unless-due}
 use Rattle.circuits.specs.Net.{Net, Bounded, top, gate-at, next-at, pin-at, out-at}
@@ -27,7 +28,7 @@ use Rattle.circuits.proofs.Paddings.{fitted-same, padding-laws}
 use Rattle.layers.specs.declared.fault.PadFault.{PadFault}
 use Rattle.layers.specs.Layers.{meant}
 use Rattle.layers.specs.Padding.{each-checked, pad-checks, padding, Pads-fitting}
-use Rattle.layers.specs.PaddedAnswers.{Raised, Found}
+use Rattle.layers.specs.PaddedAnswers.{Gate-raised, Out-raised, Found}
 
 abbrev Passed : List (Check PadFault) → Type 0
 Passed = All (λ c. c .1 ≡ false)
@@ -67,16 +68,16 @@ module _ (n : Net) (b : Bounded n) (ds : List Dummy) where
 
 -- What a padding answers, from what the circuit below does.
 module _ (n : Net) (b : Bounded n) (ds : List Dummy) where
-  pub gate-raised : (i x y : ℕ) → x ≡ gate-at n i .0 → y ≡ gate-at n i .1
-      → Raised n ds (gate-at (padded-by n ds) i .0) x × Raised n ds (gate-at (padded-by n ds) i .1) y
-  gate-raised i x y e d =
+  pub gate-raised : (i : ℕ) (g : Gate) → g .left ≡ gate-at n i .0 → g .right ≡ gate-at n i .1 → Gate-raised n ds i g
+  gate-raised i g e d =
       let at = padded-gate n (fitted (n .counts) ds) i in
-      let low = gate-low n b i in let l = low .0 in let r = low .1 in (
-        record { is = ap (λ (g : ℕ × ℕ). g .0) at ∙ ap (renumbered (raising n ds)) (sym e); low = omega arith },
-        record { is = ap (λ (g : ℕ × ℕ). g .1) at ∙ ap (renumbered (raising n ds)) (sym d); low = omega arith },
-      )
+      let low = gate-low n b i in let l = low .0 in let r = low .1 in
+      record {
+        left = record { is = ap (λ (h : ℕ × ℕ). h .0) at ∙ ap (renumbered (raising n ds)) (sym e); low = omega arith };
+        right = record { is = ap (λ (h : ℕ × ℕ). h .1) at ∙ ap (renumbered (raising n ds)) (sym d); low = omega arith };
+      }
 
-  pub out-raised : (j x : ℕ) → x ≡ out-at n j → Raised n ds (out-at (padded-by n ds) j) x
+  pub out-raised : (j x : ℕ) → x ≡ out-at n j → Out-raised n ds j x
   out-raised j x e =
       let low = out-low n b j in
       record { is = padded-out n (fitted (n .counts) ds) j ∙ ap (renumbered (raising n ds)) (sym e); low = omega arith }

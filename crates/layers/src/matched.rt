@@ -7,22 +7,22 @@ ghost use mathlib.Core.List.{[], _∷_, map};
 ghost use Rattle.std.specs.Iters.{counting};
 ghost use Rattle.std.specs.Vec.{made};
 ghost use Rattle.circuits.specs.Checks.{unless-due};
-ghost use Rattle.circuits.specs.Net.{gate-at, out-at};
 ghost use Rattle.circuits.specs.Renumbered.{renumbered};
 ghost use Rattle.circuits.specs.Matched.{wired, rewiring, Matching-laws};
 ghost use Rattle.circuits.proofs.Matchings.{wired-bounded};
 ghost use Rattle.layers.specs.Layers.{meant};
 ghost use Rattle.layers.specs.Matching.{flop-check, match-checks, matching, Matches-orders};
-ghost use Rattle.layers.specs.MatchedAnswers.{placed-from, Placed, Renamed, Stands-at};
+ghost use Rattle.layers.specs.MatchedAnswers.{placed-from, Placed, Gate-renamed, Out-renamed, Stands-at};
 use crate::fault::MatchFault;
 use circuits::circuit::Circuit;
 use circuits::circuit::Gate;
 use circuits::counts::Counts;
+use circuits::counts::MOST_FLOPS;
 
-// The most flops that a circuit has.
-const FLOPS: usize = 256;
+const FLOPS: usize = MOST_FLOPS as usize;
 
-// The circuit below, whose flop order[j] is flop j here. The place of each flop in the order is kept beside it, so that no answer searches.
+// The circuit below, whose flop order[j] is flop j here. The place of each flop in the order is kept beside it, so that no answer
+// searches.
 #[derive(Drop)]
 pub struct Matched<'a, 'p, C: Circuit> {
     below: &'a C,
@@ -141,14 +141,13 @@ impl<'a, 'p, C: Circuit> Matched<'a, 'p, C> {
 
     // What the circuit below has for gate i and for output j.
     fn gate_below(&self, i: u32) -> Gate
-        ensures left { λ r. ⌜ Renamed (C·Circuit .meaning (now (now (self .entry) .below))) (now (self .entry) .places) (gate-at (wired (C·Circuit .meaning (now (now (self .entry) .below))) (now (now (self .entry) .order)) (now (self .entry) .places)) i .0) (r .left) ⌝ }
-        ensures right { λ r. ⌜ Renamed (C·Circuit .meaning (now (now (self .entry) .below))) (now (self .entry) .places) (gate-at (wired (C·Circuit .meaning (now (now (self .entry) .below))) (now (now (self .entry) .order)) (now (self .entry) .places)) i .1) (r .right) ⌝ }
+        ensures { λ r. ⌜ Gate-renamed (C·Circuit .meaning (now (now (self .entry) .below))) (now (now (self .entry) .order)) (now (self .entry) .places) i r ⌝ }
     {
         self.below.gate(i)
     }
 
     fn out_below(&self, j: u32) -> u32
-        ensures { λ r. ⌜ Renamed (C·Circuit .meaning (now (now (self .entry) .below))) (now (self .entry) .places) (out-at (wired (C·Circuit .meaning (now (now (self .entry) .below))) (now (now (self .entry) .order)) (now (self .entry) .places)) j) r ⌝ }
+        ensures { λ r. ⌜ Out-renamed (C·Circuit .meaning (now (now (self .entry) .below))) (now (now (self .entry) .order)) (now (self .entry) .places) j r ⌝ }
     {
         self.below.out(j)
     }

@@ -5,12 +5,12 @@ ghost use lib.ListN.{length};
 ghost use denote.Ref.{now};
 ghost use Rattle.std.specs.Vec.{made};
 ghost use Rattle.circuits.specs.Checks.{unless-due};
-ghost use Rattle.circuits.specs.Net.{Bounded-counts, top, gate-at, next-at, out-at};
+ghost use Rattle.circuits.specs.Net.{Bounded-counts, top};
 ghost use Rattle.circuits.specs.Renumbered.{renumbered};
 ghost use Rattle.circuits.specs.Padded.{fitted, moved-up, padded-by, Padding-laws};
 ghost use Rattle.circuits.proofs.Paddings.{fitted-bounded};
 ghost use Rattle.layers.specs.Padding.{count-checks, dummy-checks, each-checked, pad-checks, padding, Pads-fitting};
-ghost use Rattle.layers.specs.PaddedAnswers.{Raised, Found};
+ghost use Rattle.layers.specs.PaddedAnswers.{Gate-raised, Next-raised, Out-raised, Found};
 ghost use Rattle.layers.specs.Layers.{meant};
 use crate::fault::PadFault;
 use circuits::circuit::Circuit;
@@ -111,7 +111,8 @@ impl<'a, 'd, C: Circuit> Padded<'a, 'd, C> {
     }
 
     fn shift(&self) -> Shift
-        ensures is { λ r. ⌜ r ≡ record { counts = C·Circuit .meaning (now (now (self .entry) .below)) .counts; added = length (fitted (C·Circuit .meaning (now (now (self .entry) .below)) .counts) (now (now (self .entry) .dummies))) } ⌝ }
+        ensures counts { λ r. ⌜ r .counts ≡ (C·Circuit .meaning (now (now (self .entry) .below))) .counts ⌝ }
+        ensures added { λ r. ⌜ r .added ≡ length (fitted ((C·Circuit .meaning (now (now (self .entry) .below))) .counts) (now (now (self .entry) .dummies))) ⌝ }
         ensures small { λ r. ⌜ Bounded-counts (r .counts) ⌝ ∗ ⌜ r .added ≤ 256 ⌝ ∗ ⌜ r .counts .flops + r .added ≤ 256 ⌝ }
     {
         let counts = self.below.counts();
@@ -140,14 +141,13 @@ impl<'a, 'd, C: Circuit> Padded<'a, 'd, C> {
 
     // What the circuit below has for gate i, for flop j or its dummy, and for output j.
     fn gate_below(&self, i: u32) -> Gate
-        ensures left { λ r. ⌜ Raised (C·Circuit .meaning (now (now (self .entry) .below))) (now (now (self .entry) .dummies)) (gate-at (padded-by (C·Circuit .meaning (now (now (self .entry) .below))) (now (now (self .entry) .dummies))) i .0) (r .left) ⌝ }
-        ensures right { λ r. ⌜ Raised (C·Circuit .meaning (now (now (self .entry) .below))) (now (now (self .entry) .dummies)) (gate-at (padded-by (C·Circuit .meaning (now (now (self .entry) .below))) (now (now (self .entry) .dummies))) i .1) (r .right) ⌝ }
+        ensures { λ r. ⌜ Gate-raised (C·Circuit .meaning (now (now (self .entry) .below))) (now (now (self .entry) .dummies)) i r ⌝ }
     {
         self.below.gate(i)
     }
 
     fn next_below(&self, j: u32) -> u32
-        ensures { λ r. ⌜ Raised (C·Circuit .meaning (now (now (self .entry) .below))) (now (now (self .entry) .dummies)) (next-at (padded-by (C·Circuit .meaning (now (now (self .entry) .below))) (now (now (self .entry) .dummies))) j) r ⌝ }
+        ensures { λ r. ⌜ Next-raised (C·Circuit .meaning (now (now (self .entry) .below))) (now (now (self .entry) .dummies)) j r ⌝ }
     {
         match self.dummy(j) {
             Some(dummy) => dummy.next,
@@ -156,7 +156,7 @@ impl<'a, 'd, C: Circuit> Padded<'a, 'd, C> {
     }
 
     fn out_below(&self, j: u32) -> u32
-        ensures { λ r. ⌜ Raised (C·Circuit .meaning (now (now (self .entry) .below))) (now (now (self .entry) .dummies)) (out-at (padded-by (C·Circuit .meaning (now (now (self .entry) .below))) (now (now (self .entry) .dummies))) j) r ⌝ }
+        ensures { λ r. ⌜ Out-raised (C·Circuit .meaning (now (now (self .entry) .below))) (now (now (self .entry) .dummies)) j r ⌝ }
     {
         self.below.out(j)
     }

@@ -4,6 +4,4 @@ use Rattle.layers.proofs.matched.Matched.gate_below.Needs as need
 pub returns : need.returns
 returns g c =
     let n = g .C·Circuit .meaning (c .args .self .now .below .now) in
-    let p = gate-renamed n (c .args .self .now .order .now) (c .args .self .now .places) (c .args .i)
-    (c .gate .result .left) (c .gate .result .right) (c .gate .ensures .left) (c .gate .ensures .right) in
-    record { left = p .0; right = p .1 }
+    gate-renamed n (c .args .self .now .order .now) (c .args .self .now .places) (c .args .i) (c .gate .result) (c .gate .ensures .left) (c .gate .ensures .right)

@@ -5,5 +5,4 @@ pub returns : need.returns
 returns g c =
     let n = g .C·Circuit .meaning (c .args .self .now .below .now) in
     let b = g .C·Circuit .bounded (c .args .self .now .below .now) in
-    let p = gate-raised n b (c .args .self .now .dummies .now) (c .args .i) (c .gate .result .left) (c .gate .result .right) (c .gate .ensures .left) (c .gate .ensures .right) in
-    record { left = p .0; right = p .1 }
+    gate-raised n b (c .args .self .now .dummies .now) (c .args .i) (c .gate .result) (c .gate .ensures .left) (c .gate .ensures .right)

@@ -1,7 +1,7 @@
-use mathlib.Core.Path.{_≡_, sym, subst}
+use mathlib.Core.Path.{_≡_, sym, ap, subst, _∙_}
 use native.Mathlib.Omega.{arith}
-use Prim.Native.Nat.{_+_, _≤_}
 use lib.ListN.{length}
+use Rattle.circuits.specs.declared.counts.Counts.{Counts}
 use Rattle.circuits.specs.Net.{Bounded-counts}
 use Rattle.circuits.specs.Padded.{fitted}
 use Rattle.circuits.proofs.PaddedPlaces.{fitted-length}
@@ -9,10 +9,10 @@ use Rattle.layers.proofs.padded.Padded.shift.Needs as need
 
 pub returns : need.returns
 returns g c =
-    let n = g .C·Circuit .meaning (c .args .self .now .below .now) in
     let same = c .counts-counts .ensures in
+    let ds = c .args .self .now .dummies .now in
     let b = subst Bounded-counts (sym same) (g .C·Circuit .bounded (c .args .self .now .below .now) .counts-in) in
-    let l = fitted-length (c .counts-counts .result) (c .args .self .now .dummies .now) in
+    let l = fitted-length (c .counts-counts .result) ds in
     let few = b .few-flops in
-    let e : c .min-added .result ≡ length (fitted (c .counts-counts .result) (c .args .self .now .dummies .now)) = omega arith in
-    record { is = cc; small = (b, (omega arith, omega arith)) }
+    let e : c .min-added .result ≡ length (fitted (c .counts-counts .result) ds) = omega arith in
+    record { counts = same; added = e ∙ ap (λ (k : Counts). length (fitted k ds)) same; small = (b, (omega arith, omega arith)) }
