@@ -6,7 +6,7 @@ use mathlib.Core.Logic.{inl, inr}
 use Prim.Native.Nat.{ℕ, zero, suc, _≤_}
 use native.Mathlib.Omega.{arith}
 use lib.Dec.{eqb, leb}
-use Rattle.std.proofs.shelf.Tests.{cases-bool, and-parts, eq-eqb, le-leb, lt-leb, eqb-true, leb-true, or-cases, or-right, both-ways}
+use Rattle.std.proofs.shelf.Tests.{cases-bool, and-parts, eq-eqb, lt-leb, eqb-true, leb-true, or-cases, or-right, both-ways}
 use Rattle.std.specs.Options.{isSome}
 use Rattle.std.specs.Vec.{listOf}
 use Rattle.std.specs.shelf.Lists.{All}
@@ -19,10 +19,10 @@ use Rattle.aiger.specs.declared.fault.ReadFault.{ReadFault}
 use Rattle.aiger.specs.declared.lines.Header.{Header}
 use Rattle.circuits.specs.Net.{Bounded-counts, in-bounds, last-net}
 use Rattle.circuits.proofs.Bounds.{in-bounds-from, in-bounds-parts}
+use Rattle.circuits.proofs.Checking.{all-passed}
 use Rattle.aiger.specs.Reading.{judged, refused, counts-fit, is-third, pin}
 use Rattle.circuits.specs.Checks.{Check, first-due}
 use Rattle.aiger.specs.Written.{third-number}
-use Rattle.aiger.proofs.Numerals.{none-some}
 use Rattle.aiger.proofs.Steps.{never-both, same-ok}
 
 pub passed : {X : Type 0} (k : ℕ) (r : Refusal) (o : Option (X × List ℕ)) (checks : X → List (Check Refusal)) (x : X) (t : List ℕ)
@@ -34,11 +34,6 @@ none-due : {X : Type 0} (k : ℕ) (o : Option Refusal) (p q : X × List ℕ)
     → _≡_ {A = Result (X × List ℕ) ReadFault} (elim o [ None ↦ Ok p | Some r ↦ refused k r ]) (Ok q) → (o ≡ None) × (p ≡ q)
 none-due k None p q e = (refl, same-ok p q e)
 none-due k (Some r) p q e = absurd (never-both _ q e)
-
-all-passed : (cs : List (Check Refusal)) → first-due cs ≡ None → All (λ c. c .1 ≡ false) cs
-all-passed [] e = tt
-all-passed ((r, true) ∷ cs) e = absurd (none-some (Some r) r e refl)
-all-passed ((r, false) ∷ cs) e = (refl, all-passed cs e)
 
 pub judged-parts : {X : Type 0} (k : ℕ) (r : Refusal) (o : Option (X × List ℕ)) (checks : X → List (Check Refusal)) (p : X × List ℕ)
     → judged k r o checks ≡ Ok p → (o ≡ Some p) × All (λ c. c .1 ≡ false) (checks (p .0))

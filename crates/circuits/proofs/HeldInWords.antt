@@ -1,7 +1,7 @@
 -- Words that are well laid hold a circuit, and words that hold a circuit are well laid.
 use mathlib.Core.Path.{_≡_, refl, sym, ap, subst, _∙_}
 use mathlib.Core.List.{List, [], _∷_, _++_, map}
-use Prim.Native.Nat.{ℕ, zero, suc, _+_, _-_, _*_, _≤_, _<_}
+use Prim.Native.Nat.{ℕ, zero, suc, _+_, _*_, _≤_, _<_}
 use native.Mathlib.Omega.{arith}
 use lib.ListN.{length, getD, take, drop}
 use Rattle.std.specs.Iters.{counting}
@@ -10,8 +10,8 @@ use Rattle.std.proofs.shelf.Counted.{length-map-counting, getD-map-counting}
 use Rattle.std.proofs.shelf.Elements.{all-from-getD, all-getD}
 use Rattle.std.proofs.shelf.Lists.{append-assoc, ext-getD, getD-append-add, getD-append-left, getD-drop, getD-past, getD-take, length-append, length-drop, length-take, drop-drop, drop-more, drop-take, take-append-drop, take-take}
 use Rattle.circuits.specs.declared.counts.Counts.{Counts}
-use Rattle.circuits.specs.Net.{Net, Bounded, gate-literal, gate-at, layout, operand-words, room, top}
-use Rattle.circuits.specs.Held.{Holds, Well-laid, At-most, net-in, pairs-in, row-in}
+use Rattle.circuits.specs.Net.{Net, Bounded, gate-literal, layout, operand-words, room, top}
+use Rattle.circuits.specs.Held.{Holds, Well-laid, net-in, pairs-in, row-in}
 use Rattle.circuits.proofs.Bounds.{in-bounds-from, in-bounds-parts}
 use Rattle.circuits.proofs.Layouts.{two-each, room-taken}
 use Rattle.circuits.proofs.Nets.{same-net}

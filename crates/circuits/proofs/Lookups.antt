@@ -1,9 +1,8 @@
 -- What is looked up in a bounded circuit is within the bounds, past the ends too.
 use mathlib.Core.Path.{sym, subst}
 use mathlib.Core.Logic.{⊎-elim}
-use Prim.Native.Nat.{ℕ, _≤_, _<_}
+use Prim.Native.Nat.{ℕ, _≤_}
 use native.Mathlib.Omega.{arith}
-use lib.ListN.{length}
 use Rattle.std.proofs.shelf.Lists.{getD-past}
 use Rattle.std.proofs.shelf.Tests.{cases-lt}
 use Rattle.circuits.specs.Net.{Net, Bounded, top, gate-at, next-at, pin-at, out-at}

@@ -1,5 +1,5 @@
 -- Two circuits are the same where their parts are.
-use mathlib.Core.Path.{_≡_, ap, _∙_}
+use mathlib.Core.Path.{_≡_}
 use mathlib.Core.List.{List}
 use Prim.Native.Nat.{ℕ}
 use Rattle.circuits.specs.declared.counts.Counts.{Counts}

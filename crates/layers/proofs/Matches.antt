@@ -1,24 +1,22 @@
 -- What the checks of an order say, and what passes them.
 use mathlib.Core.Path.{_≡_, refl, sym, ap, subst, _∙_}
-use mathlib.Core.Bool.{Bool, true, false, not, cond}
+use mathlib.Core.Bool.{Bool, true, false, cond}
 use mathlib.Core.List.{List, [], _∷_, map}
-use mathlib.Core.Logic.{_≢_, inl, inr, ⊎-elim}
-use Prim.Native.Nat.{ℕ, zero, suc, _+_, _-_, _≤_, _<_}
+use mathlib.Core.Logic.{⊎-elim}
+use Prim.Native.Nat.{ℕ, suc, _+_, _-_, _≤_, _<_}
 use native.Mathlib.Omega.{arith}
 use lib.Dec.{eqb, leb}
 use lib.ListN.{length, getD, set, drop, replicate}
 use Rattle.std.specs.Iters.{counting}
 use Rattle.std.specs.Vec.{made}
-use Rattle.std.specs.shelf.Lists.{All}
-use Rattle.std.specs.declared.option.Option.the-variants.{None}
 use Rattle.std.specs.declared.result.Result.{Result}
 use Rattle.std.specs.declared.result.Result.the-variants.{Ok, Err}
 use Rattle.std.proofs.shelf.Elements.{all-map, all-getD, all-from-getD}
 use Rattle.std.proofs.shelf.Counted.{length-map-counting, length-counting, getD-counting, getD-map-counting}
 use Rattle.std.proofs.shelf.Lists.{at-drop-more, drop-all, getD-past, getD-replicate, getD-set-same, getD-set-other}
-use Rattle.std.proofs.shelf.Tests.{cases-lt, cases-eq, cond-both, cond-true, cond-false, eq-eqb, ne-eqb, eqb-true, leb-false, le-leb, lt-leb, not-false, not-from-true}
+use Rattle.std.proofs.shelf.Tests.{cases-lt, cases-eq, cond-true, cond-false, eq-eqb, ne-eqb, eqb-true, leb-false, le-leb, lt-leb, not-false, not-from-true}
 use Rattle.circuits.specs.declared.circuit.Gate.{Gate}
-use Rattle.circuits.specs.Checks.{Check, first-due, unless-due}
+use Rattle.circuits.specs.Checks.{Check, unless-due}
 use Rattle.circuits.specs.Net.{Net, Bounded, gate-at, out-at, next-at, pin-at}
 use Rattle.circuits.specs.Renumbered.{renumbered}
 use Rattle.circuits.specs.Matched.{place, matched, wired, rewiring, Matching-laws}

@@ -1,25 +1,23 @@
 -- What the checks of dummies say, and what passes them.
-use mathlib.Core.Path.{_≡_, refl, sym, ap, _∙_}
+use mathlib.Core.Path.{_≡_, sym, ap, _∙_}
 use mathlib.Core.Bool.{false}
-use mathlib.Core.Logic.{_⊎_, inl, inr, ⊎-elim}
-use mathlib.Core.List.{List, [], _∷_, _++_}
+use mathlib.Core.Logic.{_⊎_, inl, inr}
+use mathlib.Core.List.{List, [], _∷_}
 use Prim.Native.Nat.{ℕ, _+_, _-_, _≤_, _<_, min}
 use native.Mathlib.Omega.{arith}
-use lib.Dec.{ltb}
 use lib.ListN.{length, getD}
 use Rattle.std.specs.Vec.{made}
 use Rattle.std.specs.shelf.Lists.{All}
 use Rattle.std.specs.declared.option.Option.the-variants.{Some, None}
 use Rattle.std.specs.declared.result.Result.{Result}
 use Rattle.std.specs.declared.result.Result.the-variants.{Ok, Err}
-use Rattle.std.proofs.shelf.Elements.{all-append}
 use Rattle.std.proofs.shelf.Tests.{ltb-false, le-ltb}
 use Rattle.circuits.specs.declared.counts.Counts.{Counts}
 use Rattle.circuits.specs.declared.circuit.Gate.{Gate}
 use Rattle.circuits.specs.declared.dummy.Dummy.{Dummy}
-use Rattle.circuits.specs.Checks.{Check, first-due, unless-due}
-use Rattle.circuits.specs.Net.{Net, Bounded, top, gate-at, next-at, pin-at, out-at}
-use Rattle.circuits.specs.Padded.{padded, fitted, padded-by, raising, Fitting, Padding-laws}
+use Rattle.circuits.specs.Checks.{Check, unless-due}
+use Rattle.circuits.specs.Net.{Net, Bounded, top, gate-at, out-at}
+use Rattle.circuits.specs.Padded.{padded, fitted, raising, Padding-laws}
 use Rattle.circuits.specs.Renumbered.{renumbered}
 use Rattle.circuits.proofs.PaddedPlaces.{padded-gate, padded-out, padded-next-other, padded-pin-other, padded-next-dummy, padded-pin-dummy, fitted-at}
 use Rattle.circuits.proofs.Lookups.{gate-low, next-low, out-low}

@@ -1,13 +1,10 @@
 -- What words stand for, by whether they are well laid.
-use mathlib.Core.Path.{_≡_, refl, sym, ap, subst, _∙_}
-use mathlib.Core.Bool.{Bool, true, false}
+use mathlib.Core.Path.{_≡_, sym, ap, _∙_}
 use mathlib.Core.List.{List, _++_}
 use Prim.Native.Nat.{ℕ}
 use lib.ListN.{length, take, drop}
-use Rattle.std.specs.Orderings.{Decides}
 use Rattle.std.specs.declared.result.Result.the-variants.{Ok}
 use Rattle.std.proofs.shelf.Lists.{take-at}
-use Rattle.std.proofs.shelf.Tests.{both-ways}
 use Rattle.circuits.specs.declared.counts.Counts.{Counts}
 use Rattle.circuits.specs.Net.{Net, layout, room}
 use Rattle.circuits.specs.Held.{Holds, Well-laid, net-in, blank}

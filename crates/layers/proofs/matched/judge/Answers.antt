@@ -1,4 +1,4 @@
-use mathlib.Core.Path.{_≡_, ap, _∙_}
+use mathlib.Core.Path.{ap, _∙_}
 use Rattle.circuits.specs.declared.counts.Counts.{Counts}
 use Rattle.circuits.specs.Checks.{unless-due}
 use Rattle.layers.specs.Matching.{match-checks}

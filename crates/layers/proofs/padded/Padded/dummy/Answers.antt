@@ -1,9 +1,7 @@
-use mathlib.Core.Path.{_≡_, ap, _∙_}
+use mathlib.Core.Path.{ap}
 use native.Mathlib.Omega.{arith}
-use lib.ListN.{length}
 use Rattle.circuits.specs.declared.counts.Counts.{Counts}
 use Rattle.circuits.specs.Net.{top}
-use Rattle.circuits.specs.Padded.{fitted}
 use Rattle.circuits.proofs.PaddedPlaces.{fitted-length}
 use Rattle.layers.proofs.Pads.{found-own, found-past, found-dummy}
 use Rattle.layers.proofs.padded.Padded.dummy.Needs as need
