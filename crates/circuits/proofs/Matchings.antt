@@ -91,9 +91,9 @@ wired-bounded n p places b =
     (length-map-counting (λ k. getD p k 0) 0 (n .counts .flops)) (λ f h. omega arith)
 
 -- with the places of an order, nothing is changed
-pub wired-matched : (n : Net) (p places : List ℕ) → Bounded n → In-some-order (n .counts .flops) p
+pub wired-matched : (n : Net) (p places : List ℕ) → In-some-order (n .counts .flops) p
     → ((f : ℕ) → f < n .counts .flops → getD places f 0 ≡ place p f) → wired n p places ≡ matched n p
-wired-matched n p places b o same =
+wired-matched n p places o same =
     let c = n .counts in
     let to : ℕ → ℕ = λ f. min (getD places f 0) (c .flops - 1) in
     let order = fill-by-all (λ k. getD p k 0) p (c .flops) 0 (o .0) (λ k _. refl) in

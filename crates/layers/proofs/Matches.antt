@@ -14,16 +14,18 @@ use Rattle.std.specs.declared.result.Result.the-variants.{Ok, Err}
 use Rattle.std.proofs.shelf.Elements.{all-map, all-getD, all-from-getD}
 use Rattle.std.proofs.shelf.Counted.{length-map-counting, length-counting, getD-counting, getD-map-counting}
 use Rattle.std.proofs.shelf.Lists.{at-drop-more, drop-all, getD-past, getD-replicate, getD-set-same, getD-set-other}
+use Rattle.std.proofs.shelf.Results.{made-weaker}
 use Rattle.std.proofs.shelf.Tests.{cases-lt, cases-eq, cond-true, cond-false, eq-eqb, ne-eqb, eqb-true, leb-false, le-leb, lt-leb, not-false, not-from-true}
 use Rattle.circuits.specs.declared.circuit.Gate.{Gate}
 use Rattle.circuits.specs.Checks.{Check, unless-due}
 use Rattle.circuits.specs.Net.{Net, Bounded, gate-at, out-at, next-at, pin-at}
 use Rattle.circuits.specs.Renumbered.{renumbered}
 use Rattle.circuits.specs.Matched.{place, matched, wired, rewiring, Matching-laws}
-use Rattle.circuits.proofs.Checking.{all-passed, none-due, due-from-err, none-from-ok, ok-from-none, err-from-due, unless-later, unless-first}
+use Rattle.circuits.proofs.Checking.{all-passed, none-due, unless-later, unless-first}
 use Rattle.circuits.proofs.Matchings.{wired-matched, matching-laws}
 use Rattle.circuits.proofs.MatchedPlaces.{wired-gate, wired-out, wired-next, wired-next-past, wired-pin, wired-pin-past, zero-kept}
 use Rattle.circuits.proofs.Orders.{at-place, place-le}
+use Rattle.layers.proofs.Judged.{judged-as, judged-made}
 use Rattle.layers.specs.declared.fault.MatchFault.{MatchFault}
 use Rattle.layers.specs.declared.fault.MatchFault.the-variants.{Unmatched}
 use Rattle.layers.specs.Layers.{meant}
@@ -139,22 +141,21 @@ matches-orders l p =
     )
 
 -- an answer of the checks, as the answer of a matching
-module _ (n : Net) (b : Bounded n) (p : List ℕ) where
-  pub judged : (r : Result (List ℕ) MatchFault) → meant (λ _. tt {0}) r ≡ unless-due (match-checks (n .counts .flops) p) (tt {0}) → made r (Placed p)
-      → meant (λ places. wired n p places) r ≡ matching n p
-  judged (Ok places) e right =
-      let none = none-from-ok (match-checks (n .counts .flops) p) (tt {0}) (tt {0}) (sym e) in
+module _ (n : Net) (b : Bounded n) (p : List ℕ) (r : Result (List ℕ) MatchFault)
+    (e : meant (λ _. tt {0}) r ≡ unless-due (match-checks (n .counts .flops) p) (tt {0})) where
+  pub judged : made r (Placed p) → meant (λ places. wired n p places) r ≡ matching n p
+  judged right =
+      judged-as (match-checks (n .counts .flops) p) (λ places. wired n p places) (matched n p) r e (λ none.
+      made-weaker r (Placed p) (λ places. wired n p places ≡ matched n p) (λ places placed.
       let o = matches-orders (n .counts .flops) p .0 none in
       let few = b .counts-in .few-flops in
-      ap (λ m. Ok m) (wired-matched n p places b o (λ f h. let m = o .1 f h in let l = o .0 in right f (omega arith) ∙ placed-is 0 p f (omega arith) ∙ omega arith))
-      ∙ sym (ok-from-none (match-checks (n .counts .flops) p) (matched n p) none)
-  judged (Err f) e right =
-      sym (err-from-due (match-checks (n .counts .flops) p) (matched n p) f (due-from-err (match-checks (n .counts .flops) p) (tt {0}) f (sym e)))
+      wired-matched n p places o (λ f h.
+      let m = o .1 f h in let l = o .0 in placed f (omega arith) ∙ placed-is 0 p f (omega arith) ∙ omega arith)) right)
 
-  pub judged-laws : (r : Result (List ℕ) MatchFault) → meant (λ _. tt {0}) r ≡ unless-due (match-checks (n .counts .flops) p) (tt {0})
-      → made r (λ _. Matching-laws n p)
-  judged-laws (Ok places) e = matching-laws n p b (matches-orders (n .counts .flops) p .0 (none-from-ok (match-checks (n .counts .flops) p) (tt {0}) (tt {0}) (sym e)))
-  judged-laws (Err f) e = tt
+  pub judged-laws : made r (λ _. Matching-laws n p)
+  judged-laws =
+      judged-made (match-checks (n .counts .flops) p) (Matching-laws n p) r e (λ none.
+      matching-laws n p b (matches-orders (n .counts .flops) p .0 none))
 
 -- What a matching answers, from what the circuit below does.
 module _ (n : Net) (p places : List ℕ) where

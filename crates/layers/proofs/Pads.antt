@@ -21,8 +21,9 @@ use Rattle.circuits.specs.Padded.{padded, fitted, raising, Padding-laws}
 use Rattle.circuits.specs.Renumbered.{renumbered}
 use Rattle.circuits.proofs.PaddedPlaces.{padded-gate, padded-out, padded-next-other, padded-pin-other, padded-next-dummy, padded-pin-dummy, fitted-at}
 use Rattle.circuits.proofs.Lookups.{gate-low, next-low, out-low}
-use Rattle.circuits.proofs.Checking.{all-passed, none-due, due-from-err, none-from-ok, ok-from-none, err-from-due}
+use Rattle.circuits.proofs.Checking.{all-passed, none-due}
 use Rattle.circuits.proofs.Paddings.{fitted-same, padding-laws}
+use Rattle.layers.proofs.Judged.{judged-as, judged-made, meant-itself}
 use Rattle.layers.specs.declared.fault.PadFault.{PadFault}
 use Rattle.layers.specs.Layers.{meant}
 use Rattle.layers.specs.Padding.{each-checked, pad-checks, padding, Pads-fitting}
@@ -51,18 +52,20 @@ pads-fitting c ds = (
 )
 
 -- an answer of the checks, as the answer of a padding
-module _ (n : Net) (b : Bounded n) (ds : List Dummy) where
-  pub judged : (r : Result (Unit {0}) PadFault) → r ≡ unless-due (pad-checks (n .counts) ds) tt
-      → meant (λ _. padded n (fitted (n .counts) ds)) r ≡ padding n ds
-  judged (Ok t) e =
-      let none = none-from-ok (pad-checks (n .counts) ds) tt t (sym e) in
-      let f = pads-fitting (n .counts) ds .0 none in
-      ap (λ xs. Ok (padded n xs)) (fitted-same (n .counts) ds (f .1)) ∙ sym (ok-from-none (pad-checks (n .counts) ds) (padded n ds) none)
-  judged (Err f) e = sym (err-from-due (pad-checks (n .counts) ds) (padded n ds) f (due-from-err (pad-checks (n .counts) ds) tt f (sym e)))
+module _ (n : Net) (b : Bounded n) (ds : List Dummy) (r : Result (Unit {0}) PadFault) (e : r ≡ unless-due (pad-checks (n .counts) ds) tt) where
+  pub judged : meant (λ _. padded n (fitted (n .counts) ds)) r ≡ padding n ds
+  judged =
+      judged-as (pad-checks (n .counts) ds) (λ _. padded n (fitted (n .counts) ds)) (padded n ds) r (meant-itself r ∙ e) (λ none.
+      by-result r (ap (padded n) (fitted-same (n .counts) ds (pads-fitting (n .counts) ds .0 none .1))))
+    where
+      by-result : {P : Type 0} (r : Result (Unit {0}) PadFault) → P → made r (λ _. P)
+      by-result (Ok t) p = p
+      by-result (Err f) p = tt
 
-  pub judged-laws : (r : Result (Unit {0}) PadFault) → r ≡ unless-due (pad-checks (n .counts) ds) tt → made r (λ _. Padding-laws n ds)
-  judged-laws (Ok t) e = padding-laws n ds b (pads-fitting (n .counts) ds .0 (none-from-ok (pad-checks (n .counts) ds) tt t (sym e)) .1)
-  judged-laws (Err f) e = tt
+  pub judged-laws : made r (λ _. Padding-laws n ds)
+  judged-laws =
+      judged-made (pad-checks (n .counts) ds) (Padding-laws n ds) r (meant-itself r ∙ e) (λ none.
+      padding-laws n ds b (pads-fitting (n .counts) ds .0 none .1))
 
 -- What a padding answers, from what the circuit below does.
 module _ (n : Net) (b : Bounded n) (ds : List Dummy) where

@@ -10,4 +10,8 @@ returns g c =
     let b = g .C·Circuit .bounded (c .args .below .now) in
     let ds = c .args .dummies .now in
     let e = c .judge-all .ensures ∙ ap (λ k. unless-due (pad-checks k ds) (tt {0})) (c .counts .ensures) in
-    record { answer = judged n b ds (c .judge-all .result) e; exact = pads-fitting (n .counts) ds; laws = judged-laws n b ds (c .judge-all .result) e }
+    record {
+      answer = judged n b ds (c .judge-all .result) e;
+      exact = pads-fitting (n .counts) ds;
+      laws = judged-laws n b ds (c .judge-all .result) e;
+    }
