@@ -1,8 +1,10 @@
 -- What words stand for, by whether they are well laid.
 use mathlib.Core.Path.{_≡_, sym, ap, _∙_}
+use mathlib.Core.Bool.{Bool}
 use mathlib.Core.List.{List, _++_}
 use Prim.Native.Nat.{ℕ}
 use lib.ListN.{length, take, drop}
+use Rattle.std.specs.Orderings.{Decides}
 use Rattle.std.specs.declared.result.Result.the-variants.{Ok}
 use Rattle.std.proofs.shelf.Lists.{take-at}
 use Rattle.circuits.specs.declared.counts.Counts.{Counts}
@@ -12,7 +14,7 @@ use Rattle.circuits.proofs.HeldInWords.{holds-only, holds-well, well-holds}
 use Rattle.circuits.proofs.Layouts.{room-taken}
 use Rattle.aiger.specs.Reading.{reading, words-after}
 use Rattle.aiger.proofs.Accepted.{accepts-written}
-use Rattle.netlists.specs.Plain.{Stands-for}
+use Rattle.netlists.specs.Plain.{Some-held, Stands-for}
 
 module _ (c : Counts) (words : List ℕ) where
   -- what was read is held
@@ -30,7 +32,7 @@ module _ (c : Counts) (words : List ℕ) where
   pub stands-held : Well-laid c words → Stands-for c words (net-in c words)
   stands-held w = record {
     held = holds-only c words;
-    none-held = λ none. absurd (none (net-in c words) (well-holds c words w));
+    none-held = λ none. absurd (none (net-in c words, well-holds c words w));
     as-read = λ lent text before m e k l. holds-only c words m (read-held lent text before m e k l);
   }
 
@@ -40,3 +42,6 @@ module _ (c : Counts) (words : List ℕ) where
     none-held = λ _. e;
     as-read = λ lent text before m r k l. absurd (bad (holds-well c words m (read-held lent text before m r k l)));
   }
+
+  pub some-held : (r : Bool) → Decides r (Well-laid c words) → Decides r (Some-held c words)
+  some-held r d = ((λ e. (net-in c words, well-holds c words (d .0 e))), (λ h. d .1 (holds-well c words (h .0) (h .1))))

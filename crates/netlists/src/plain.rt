@@ -6,7 +6,7 @@ ghost use mathlib.Core.Bool.{true, false};
 ghost use denote.Ref.{now};
 ghost use Rattle.std.specs.Orderings.{Decides};
 ghost use Rattle.circuits.specs.Net.{Net, room};
-ghost use Rattle.netlists.specs.Plain.{Stands-for};
+ghost use Rattle.netlists.specs.Plain.{Some-held, Stands-for};
 ghost use Rattle.circuits.specs.Held.{Well-laid, At-most, Gates-low, Rows-low, net-in, row-in, pairs-in, blank};
 ghost use Rattle.circuits.proofs.HeldInWords.{held-bounded};
 use circuits::circuit::Circuit;
@@ -100,6 +100,7 @@ fn well_laid(counts: Counts, words: &[u32]) -> bool
 
 // The same, with what the words then stand for.
 fn holds_circuit(counts: Counts, words: &[u32]) -> bool
+    ensures decides { λ r. ⌜ Decides r (Some-held counts (now (words .entry))) ⌝ }
     ensures laid { λ r. ⌜ (r ≡ true → Well-laid counts (now (words .entry))) ⌝ }
     ensures held { λ r. ⌜ (r ≡ true → Stands-for counts (now (words .entry)) (net-in counts (now (words .entry)))) ⌝ }
     ensures none { λ r. ⌜ (r ≡ false → (n : Net) → n ≡ blank → Stands-for counts (now (words .entry)) n) ⌝ }
@@ -116,6 +117,13 @@ impl<'a> Plain<'a> {
             return Plain { counts, words };
         }
         Plain::blank()
+    }
+
+    // Whether the words hold a circuit of these counts, for who would rather refuse than take the blank one.
+    pub fn holds(counts: Counts, words: &[u32]) -> bool
+        ensures { λ r. ⌜ Decides r (Some-held counts (now (words .entry))) ⌝ }
+    {
+        holds_circuit(counts, words)
     }
 
     fn blank() -> Plain<'a>
