@@ -1,4 +1,6 @@
 // AIGER text, read from bytes into lent words of 32 bits.
+#![tactic(auto)]
+
 pub mod fault;
 mod lines;
 pub mod reading;

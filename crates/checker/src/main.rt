@@ -1,4 +1,6 @@
 // Reads the two netlists of a folder and prints one line: what was read, or why not.
+#![tactic(auto)]
+
 mod folder;
 mod report;
 mod summary;

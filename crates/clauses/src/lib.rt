@@ -1,4 +1,6 @@
 // The clauses of a comparison, answered by number and place; and which circuits, rules and depths can be compared at all.
+#![tactic(auto)]
+
 pub mod comparison;
 pub mod fixed;
 pub mod plan;

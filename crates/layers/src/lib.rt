@@ -1,4 +1,6 @@
 // Layers over any circuit: dummy flops after its own, and its flops in another order.
+#![tactic(auto)]
+
 pub mod fault;
 pub mod matched;
 pub mod padded;

@@ -1,5 +1,7 @@
 // Netlists: AIGER text, and circuits of every kind under one interface. Whoever is above needs this crate alone: what stands in the
 // crates below is passed on.
+#![tactic(auto)]
+
 pub mod plain;
 #[cfg(test)]
 mod tests;

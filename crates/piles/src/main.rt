@@ -1,5 +1,7 @@
 // Piles layers on sample netlists and prints what the circuit on top answers. A line of `list` has a netlist's file and up to two
 // layers, from the lowest: `mixed.aag;pad 8:1 7:2;match 2 0 3 1`, a dummy as its next literal and its pin.
+#![tactic(auto)]
+
 mod layer;
 mod told;
 

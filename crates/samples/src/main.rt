@@ -1,5 +1,7 @@
 // Reads sample netlists and prints what each reading answered. A line of `list` has how many words are lent, and the
 // files whose bytes, one after the other, are the text.
+#![tactic(auto)]
+
 use anyhow::anyhow;
 use netlists::read;
 use std::fs;
