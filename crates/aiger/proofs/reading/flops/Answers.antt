@@ -14,16 +14,16 @@ loop-j-init c =
 pub loop-j-preserved : goal.loop-j-preserved
 loop-j-preserved c =
     ap (as_words side_by_side) (each_more (flop_line c.args.counts) with_flop c.args.counts.flops c.loop-j.j _ _ _ _ _ (omega arith)
-    c.in-ok-flop.ensures
-    (ap (λ (ws : List ℕ). (take (c.loop-j.j + 1) ws, take (c.loop-j.j + 1) (drop c.args.counts.flops ws))) c.write-flop.ensures
-    ∙ flop_words c.loop-j.words c.args.counts.flops c.loop-j.j c.in-ok-flop.flop (omega arith) (omega arith)))
+    c.in_ok-flop.ensures
+    (ap (λ (ws : List ℕ). (take (c.loop-j.j + 1) ws, take (c.loop-j.j + 1) (drop c.args.counts.flops ws))) c.write_flop.ensures
+    ∙ flop_words c.loop-j.words c.args.counts.flops c.loop-j.j c.in_ok-flop.flop (omega arith) (omega arith)))
     ∙ c.loop-j.invariant
 
-pub returns-in-err-flop : goal.returns-in-err-flop
-returns-in-err-flop c =
+pub returns-in_err-flop : goal.returns-in_err-flop
+returns-in_err-flop c =
     let p = err_from_is_err_and c.from-residual.result c.from-residual.ensures.1 in
     rw (p.1, p.2) (ap (as_words side_by_side) (each_stops (flop_line c.args.counts) with_flop c.args.counts.flops c.loop-j.j _ _ _ (omega arith)
-    c.in-err-flop.ensures) ∙ c.loop-j.invariant)
+    c.in_err-flop.ensures) ∙ c.loop-j.invariant)
 
 pub returns : goal.returns
 returns c =

@@ -14,13 +14,13 @@ loop-i-init c =
 pub loop-i-preserved : goal.loop-i-preserved
 loop-i-preserved c =
     each_more (gate_line c.args.counts) with_gate c.args.counts.gates c.loop-i.i _ _ _ _ _ (omega arith)
-    c.in-ok-gate.ensures (ap (take (2 * (c.loop-i.i + 1))) c.write-gate.ensures ∙ take_pair c.loop-i.words c.loop-i.i _ _ (omega arith)) ∙ c.loop-i.invariant
+    c.in_ok-gate.ensures (ap (take (2 * (c.loop-i.i + 1))) c.write_gate.ensures ∙ take_pair c.loop-i.words c.loop-i.i _ _ (omega arith)) ∙ c.loop-i.invariant
 
-pub returns-in-err-gate : goal.returns-in-err-gate
-returns-in-err-gate c =
+pub returns-in_err-gate : goal.returns-in_err-gate
+returns-in_err-gate c =
     let p = err_from_is_err_and c.from-residual.result c.from-residual.ensures.1 in
     rw (p.1, p.2) (each_stops (gate_line c.args.counts) with_gate c.args.counts.gates c.loop-i.i _ _ _ (omega arith)
-    c.in-err-gate.ensures ∙ c.loop-i.invariant)
+    c.in_err-gate.ensures ∙ c.loop-i.invariant)
 
 pub returns : goal.returns
 returns c =

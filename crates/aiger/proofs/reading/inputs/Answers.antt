@@ -10,13 +10,13 @@ loop-i-init c = each_starts {S = Unit {0}} input_line (λ s _. s) (λ _. tt) tt 
 pub loop-i-preserved : goal.loop-i-preserved
 loop-i-preserved c =
     each_more {S = Unit {0}} input_line (λ s _. s) c.args.count c.loop-i.i tt tt _ _ _ (omega arith)
-    c.in-ok-input-line.ensures refl ∙ c.loop-i.invariant
+    c.in_ok-input_line.ensures refl ∙ c.loop-i.invariant
 
-pub returns-in-err-input-line : goal.returns-in-err-input-line
-returns-in-err-input-line c =
+pub returns-in_err-input_line : goal.returns-in_err-input_line
+returns-in_err-input_line c =
     let p = err_from_is_err_and c.from-residual.result c.from-residual.ensures.1 in
     rw (p.1, p.2) (each_stops {S = Unit {0}} input_line (λ s _. s) c.args.count c.loop-i.i tt _ _ (omega arith)
-    c.in-err-input-line.ensures ∙ c.loop-i.invariant)
+    c.in_err-input_line.ensures ∙ c.loop-i.invariant)
 
 pub returns : goal.returns
 returns c = each_all {S = Unit {0}} input_line (λ s _. s) c.args.count c.loop-i.i tt _ (omega arith) ∙ c.loop-i.invariant

@@ -13,13 +13,13 @@ loop-j-init c =
 pub loop-j-preserved : goal.loop-j-preserved
 loop-j-preserved c =
     each_more (output_line c.args.counts) with_output c.args.counts.outputs c.loop-j.j _ _ _ _ _ (omega arith)
-    c.in-ok-words.ensures (take_more_set c.loop-j.words c.loop-j.j _ (omega arith)) ∙ c.loop-j.invariant
+    c.in_ok-words.ensures (take_more_set c.loop-j.words c.loop-j.j _ (omega arith)) ∙ c.loop-j.invariant
 
-pub returns-in-err-words : goal.returns-in-err-words
-returns-in-err-words c =
+pub returns-in_err-words : goal.returns-in_err-words
+returns-in_err-words c =
     let p = err_from_is_err_and c.from-residual.result c.from-residual.ensures.1 in
     rw (p.1, p.2) (each_stops (output_line c.args.counts) with_output c.args.counts.outputs c.loop-j.j _ _ _ (omega arith)
-    c.in-err-words.ensures ∙ c.loop-j.invariant)
+    c.in_err-words.ensures ∙ c.loop-j.invariant)
 
 pub returns : goal.returns
 returns c =

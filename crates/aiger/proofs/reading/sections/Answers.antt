@@ -13,7 +13,7 @@ returns c =
     let lg : length c.gates.new.words ≡ g - 0 = omega arith in
     record {
       front = sections_end c.args.counts _ _ _ _ _ _ _ _ _ c.gates.result
-          c.in-ok-inputs.ensures c.in-ok-flops.ensures c.in-ok-outputs.ensures c.gates.ensures
+          c.in_ok-inputs.ensures c.in_ok-flops.ensures c.in_ok-outputs.ensures c.gates.ensures
           (laid_front c.args.words.now c.flops.new.words c.outputs.new.words c.gates.new.words
           g e n (e - g) (n - e) (g - 0) refl refl (omega arith) (omega arith) (omega arith) (omega arith) lf lo lg);
       later = λ ok. laid_later c.args.words.now c.flops.new.words c.outputs.new.words c.gates.new.words

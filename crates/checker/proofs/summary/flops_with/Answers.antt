@@ -6,8 +6,8 @@ use Rattle.circuits.specs.declared.counts.Counts.{Counts}
 use Rattle.checker.proofs.summary.flops_with.Goals as goal
 use Rattle.checker.proofs.summary.flops_with.Goals.{then-pin, else-pin}
 
-pub overflow-add-count : goal.overflow-add-count
-overflow-add-count g c =
+pub overflow_add-count : goal.overflow_add-count
+overflow_add-count g c =
     let n = g.C.Circuit.meaning c.args.circuit.now in
     let few = (g.C.Circuit.bounded c.args.circuit.now).counts_in.few_flops in
     let l = ap (λ (k : Counts). k.flops) c.counts-j-end.ensures in

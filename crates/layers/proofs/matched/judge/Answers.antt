@@ -10,9 +10,9 @@ returns g c =
     let n = g.C.Circuit.meaning c.args.below.now in
     let b = g.C.Circuit.bounded c.args.below.now in
     let p = c.args.order.now in
-    let e = c.judge-order.ensures.answer ∙ ap (λ (k : Counts). unless_due (match_checks k.flops p) (tt {0})) c.counts.ensures in
+    let e = c.judge_order.ensures.answer ∙ ap (λ (k : Counts). unless_due (match_checks k.flops p) (tt {0})) c.counts.ensures in
     record {
-      answer = judged n b p c.judge-order.result e c.judge-order.ensures.places;
+      answer = judged n b p c.judge_order.result e c.judge_order.ensures.places;
       exact = matches_orders n.counts.flops p;
-      laws = judged_laws n b p c.judge-order.result e;
+      laws = judged_laws n b p c.judge_order.result e;
     }

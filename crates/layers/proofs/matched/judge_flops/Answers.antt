@@ -10,12 +10,12 @@ pub loop-flop-init : goal.loop-flop-init
 loop-flop-init c = let e : c.args.flops ≡ c.args.flops - 0 = omega arith in ap (λ m. unless_due (map (flop_check c.args.order.now) (range_with_len 0 m)) (tt {0})) e
 
 pub loop-flop-preserved : goal.loop-flop-preserved
-loop-flop-preserved c = c.loop-flop.invariant ∙ flop_passed c.args.order.now c.args.flops c.loop-flop.flop (omega arith) c.in-ok-judge-flop.ensures
+loop-flop-preserved c = c.loop-flop.invariant ∙ flop_passed c.args.order.now c.args.flops c.loop-flop.flop (omega arith) c.in_ok-judge_flop.ensures
 
-pub returns-in-err-judge-flop : goal.returns-in-err-judge-flop
-returns-in-err-judge-flop c =
+pub returns-in_err-judge_flop : goal.returns-in_err-judge_flop
+returns-in_err-judge_flop c =
     let p = err_from_is_err_and c.from-residual.result c.from-residual.ensures.1 in
-    rw (p.1, p.2) (sym (c.loop-flop.invariant ∙ flop_refused c.args.order.now c.args.flops c.loop-flop.flop (omega arith) _ c.in-err-judge-flop.ensures))
+    rw (p.1, p.2) (sym (c.loop-flop.invariant ∙ flop_refused c.args.order.now c.args.flops c.loop-flop.flop (omega arith) _ c.in_err-judge_flop.ensures))
 
 pub returns : goal.returns
 returns c =

@@ -9,9 +9,9 @@ returns g c =
     let n = g.C.Circuit.meaning c.args.below.now in
     let b = g.C.Circuit.bounded c.args.below.now in
     let ds = c.args.dummies.now in
-    let e = c.judge-all.ensures ∙ ap (λ k. unless_due (pad_checks k ds) (tt {0})) c.counts.ensures in
+    let e = c.judge_all.ensures ∙ ap (λ k. unless_due (pad_checks k ds) (tt {0})) c.counts.ensures in
     record {
-      answer = judged n b ds c.judge-all.result e;
+      answer = judged n b ds c.judge_all.result e;
       exact = pads_fitting n.counts ds;
-      laws = judged_laws n b ds c.judge-all.result e;
+      laws = judged_laws n b ds c.judge_all.result e;
     }

@@ -29,15 +29,15 @@ module _ (c : Counts) (ds : List Dummy) (k : ℕ) (h : k < length ds) where
       at_drop_more (λ xs. unless_due (each_checked c k xs) (tt {0})) ds k (record { next = 0; pin = 0 }) h
       ∙ unless_first (dummy_checks c k (get_or ds k (record { next = 0; pin = 0 }))) (each_checked c (k + 1) (drop (k + 1) ds)) (tt {0}) (tt {0}) f (sym e)
 
-pub returns-in-err-judge-dummy : goal.returns-in-err-judge-dummy
+pub returns-in_err-judge_dummy : goal.returns-in_err-judge_dummy
 unfolding from_dummy at_dummy
-returns-in-err-judge-dummy c =
+returns-in_err-judge_dummy c =
     let p = err_from_is_err_and c.from-residual.result c.from-residual.ensures.1 in
-    rw (p.1, p.2) (sym (c.loop-k.invariant ∙ stops c.args.counts c.args.dummies.now c.loop-k.k (omega arith) _ c.in-err-judge-dummy.ensures))
+    rw (p.1, p.2) (sym (c.loop-k.invariant ∙ stops c.args.counts c.args.dummies.now c.loop-k.k (omega arith) _ c.in_err-judge_dummy.ensures))
 
 pub loop-k-preserved : goal.loop-k-preserved
 unfolding from_dummy at_dummy
-loop-k-preserved c = c.loop-k.invariant ∙ goes_on c.args.counts c.args.dummies.now c.loop-k.k (omega arith) c.in-ok-judge-dummy.ensures
+loop-k-preserved c = c.loop-k.invariant ∙ goes_on c.args.counts c.args.dummies.now c.loop-k.k (omega arith) c.in_ok-judge_dummy.ensures
 
 pub returns : goal.returns
 returns c = sym (c.loop-k.invariant ∙ at_drop_all (λ xs. unless_due (each_checked c.args.counts c.loop-k.k xs) (tt {0})) c.args.dummies.now c.loop-k.k (omega arith))

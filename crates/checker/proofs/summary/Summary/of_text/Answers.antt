@@ -6,9 +6,9 @@ use Rattle.checker.proofs.summary.Summary.of_text.Goals as goal
 pub returns : goal.returns
 returns c =
     let p = c.new-plain.result in
-    let r = c.in-ok-counts.ensures in
+    let r = c.in_ok-counts.ensures in
     record {
       answer = ap (λ s. Ok s) c.of.ensures ∙ read_summed (length c.args.words.now) c.args.text.now c.args.words.now c.read.new.words
-          c.in-ok-counts.counts (net_in p.counts p.words.now) r.written c.new-plain.ensures r.answer;
+          c.in_ok-counts.counts (net_in p.counts p.words.now) r.written c.new-plain.ensures r.answer;
       written = r.written;
     }

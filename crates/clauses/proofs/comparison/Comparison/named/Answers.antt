@@ -5,8 +5,8 @@ use Rattle.clauses.proofs.comparison.Comparison.named.Goals as goal
 pub flop-requires : goal.flop-requires
 flop-requires g c = sizes_small c.requires.0
 
-pub own-literal-requires : goal.own-literal-requires
-own-literal-requires g c =
+pub own_literal-requires : goal.own_literal-requires
+own_literal-requires g c =
     let s = sizes_small c.requires.0 in
     let few = s.few_cycles in
     let i = c.loop-t.invariant in
@@ -27,12 +27,12 @@ loop-t-preserved g c =
     (omega arith) (omega arith) i.1 (sym c.in-Some.ensures) c.next.ensures c.inverted-x.ensures in
     (omega arith, low, same ∙ i.2)
 
-pub own-literal-requires-2 : goal.own-literal-requires-2
-own-literal-requires-2 g c =
+pub own_literal-requires-2 : goal.own_literal-requires-2
+own_literal-requires-2 g c =
     let i = c.loop-t.invariant in
     (sizes_small c.requires.0, (omega arith, literal_low c.requires.0 c.args.half c.loop-t.t c.loop-t.x (omega arith) i.1))
 
 pub returns : goal.returns
 returns g c =
     let i = c.loop-t.invariant in
-    c.own-literal-2.ensures ∙ own_at_start c.requires.0 c.args.half c.loop-t.t c.loop-t.x (omega arith) (omega arith) i.1 ∙ i.2
+    c.own_literal-2.ensures ∙ own_at_start c.requires.0 c.args.half c.loop-t.t c.loop-t.x (omega arith) (omega arith) i.1 ∙ i.2

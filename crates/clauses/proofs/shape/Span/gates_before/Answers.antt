@@ -2,8 +2,8 @@ use Rattle.std.proofs.Common.{sym, arith}
 use Rattle.clauses.proofs.Gates.{before_front, before_back, few_fronts, few_both}
 use Rattle.clauses.proofs.shape.Span.gates_before.Goals as goal
 
-pub overflow-add-result : goal.overflow-add-result
-overflow-add-result c = let f = few_both c.args.self c.args.t c.requires.0 (omega arith) in omega arith
+pub overflow_add-result : goal.overflow_add-result
+overflow_add-result c = let f = few_both c.args.self c.args.t c.requires.0 (omega arith) in omega arith
 
 pub returns-then-t-self : goal.returns-then-t-self
 returns-then-t-self c =
