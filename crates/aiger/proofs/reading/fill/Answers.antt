@@ -6,13 +6,13 @@ use Rattle.aiger.proofs.reading.fill.Goals as goal
 
 pub returns-in_err-header : goal.returns-in_err-header
 returns-in_err-header c =
-    let p = err_from_is_err_and c.from-residual.result c.from-residual.ensures.1 in
+    let p = err_from_is_err_and c.from_residual.result c.from_residual.ensures.1 in
     let z = header_refused _ c.args.text.now _ c.args.words.now _ c.new-lines.ensures c.in_err-header.ensures.line in
     rw (p.1, p.2) (record { answer = z.0; written = z.1; laws = laws _ _ })
 
 pub returns-in_err-sections : goal.returns-in_err-sections
 returns-in_err-sections c =
-    let p = err_from_is_err_and c.from-residual-in_err-sections.result c.from-residual-in_err-sections.ensures.1 in
+    let p = err_from_is_err_and c.from_residual-in_err-sections.result c.from_residual-in_err-sections.ensures.1 in
     let z = later_refused _ c.args.text.now _ _ c.args.words.now c.in_ok-header.header _
     c.new-lines.ensures c.in_ok-header.ensures.line c.in_err-sections.ensures.front in
     rw (p.1, p.2) (record { answer = z.0; written = z.1; laws = laws _ _ })

@@ -21,7 +21,7 @@ loop-j-preserved c =
 
 pub returns-in_err-flop : goal.returns-in_err-flop
 returns-in_err-flop c =
-    let p = err_from_is_err_and c.from-residual.result c.from-residual.ensures.1 in
+    let p = err_from_is_err_and c.from_residual.result c.from_residual.ensures.1 in
     rw (p.1, p.2) (ap (as_words side_by_side) (each_stops (flop_line c.args.counts) with_flop c.args.counts.flops c.loop-j.j _ _ _ (omega arith)
     c.in_err-flop.ensures) ∙ c.loop-j.invariant)
 

@@ -18,7 +18,7 @@ loop-i-preserved c =
 
 pub returns-in_err-gate : goal.returns-in_err-gate
 returns-in_err-gate c =
-    let p = err_from_is_err_and c.from-residual.result c.from-residual.ensures.1 in
+    let p = err_from_is_err_and c.from_residual.result c.from_residual.ensures.1 in
     rw (p.1, p.2) (each_stops (gate_line c.args.counts) with_gate c.args.counts.gates c.loop-i.i _ _ _ (omega arith)
     c.in_err-gate.ensures ∙ c.loop-i.invariant)
 

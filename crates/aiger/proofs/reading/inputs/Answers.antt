@@ -14,7 +14,7 @@ loop-i-preserved c =
 
 pub returns-in_err-input_line : goal.returns-in_err-input_line
 returns-in_err-input_line c =
-    let p = err_from_is_err_and c.from-residual.result c.from-residual.ensures.1 in
+    let p = err_from_is_err_and c.from_residual.result c.from_residual.ensures.1 in
     rw (p.1, p.2) (each_stops {S = Unit {0}} input_line (λ s _. s) c.args.count c.loop-i.i tt _ _ (omega arith)
     c.in_err-input_line.ensures ∙ c.loop-i.invariant)
 

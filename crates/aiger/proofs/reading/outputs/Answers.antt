@@ -17,7 +17,7 @@ loop-j-preserved c =
 
 pub returns-in_err-words : goal.returns-in_err-words
 returns-in_err-words c =
-    let p = err_from_is_err_and c.from-residual.result c.from-residual.ensures.1 in
+    let p = err_from_is_err_and c.from_residual.result c.from_residual.ensures.1 in
     rw (p.1, p.2) (each_stops (output_line c.args.counts) with_output c.args.counts.outputs c.loop-j.j _ _ _ (omega arith)
     c.in_err-words.ensures ∙ c.loop-j.invariant)
 

@@ -14,7 +14,7 @@ loop-flop-preserved c = c.loop-flop.invariant ∙ flop_passed c.args.order.now c
 
 pub returns-in_err-judge_flop : goal.returns-in_err-judge_flop
 returns-in_err-judge_flop c =
-    let p = err_from_is_err_and c.from-residual.result c.from-residual.ensures.1 in
+    let p = err_from_is_err_and c.from_residual.result c.from_residual.ensures.1 in
     rw (p.1, p.2) (sym (c.loop-flop.invariant ∙ flop_refused c.args.order.now c.args.flops c.loop-flop.flop (omega arith) _ c.in_err-judge_flop.ensures))
 
 pub returns : goal.returns

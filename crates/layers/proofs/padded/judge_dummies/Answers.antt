@@ -32,7 +32,7 @@ module _ (c : Counts) (ds : List Dummy) (k : ℕ) (h : k < length ds) where
 pub returns-in_err-judge_dummy : goal.returns-in_err-judge_dummy
 unfolding from_dummy at_dummy
 returns-in_err-judge_dummy c =
-    let p = err_from_is_err_and c.from-residual.result c.from-residual.ensures.1 in
+    let p = err_from_is_err_and c.from_residual.result c.from_residual.ensures.1 in
     rw (p.1, p.2) (sym (c.loop-k.invariant ∙ stops c.args.counts c.args.dummies.now c.loop-k.k (omega arith) _ c.in_err-judge_dummy.ensures))
 
 pub loop-k-preserved : goal.loop-k-preserved
