@@ -2,7 +2,7 @@
 use Rattle.std.proofs.Common.{◌≡◌, ℕ, zero, suc, ◌≤◌, Bool, true, false, cond, not, eqb, leb, List, [], ◌∷◌, is_some, Some, None, Ok, Option, Result, sym, refl, ap, ◌∙◌, inl, inr, arith}
 use Rattle.std.proofs.lemmas.Bool.{cases_Bool, and_parts, eq-eqb, lt-leb, eqb-true, leb-true, or_cases, or_right, both_ways}
 use Rattle.std.specs.Option.{option_to_list}
-use Rattle.std.specs.List.{AllByRecursion as All}
+use Rattle.std.specs.List.{AllByRecursion}
 use Rattle.aiger.specs.declared.fault.Refusal.{Refusal}
 use Rattle.aiger.specs.declared.fault.ReadFault.{ReadFault}
 use Rattle.aiger.specs.declared.lines.Header.{Header}
@@ -25,7 +25,7 @@ none_due k None p q e = (refl, same_ok p q e)
 none_due k (Some r) p q e = absurd (never_both _ q e)
 
 pub judged_parts : {X : Type 0} (k : ℕ) (r : Refusal) (o : Option (X × List ℕ)) (checks : X → List (Check Refusal)) (p : X × List ℕ)
-    → judged k r o checks ≡ Ok p → (o ≡ Some p) × All (λ c. c.1 ≡ false) (checks p.0)
+    → judged k r o checks ≡ Ok p → (o ≡ Some p) × AllByRecursion (λ c. c.1 ≡ false) (checks p.0)
 judged_parts k r None checks p e = absurd (never_both _ p e)
 judged_parts {X = X} k r (Some q) checks p e =
     let n = none_due k (first_due (checks q.0)) q p e in (

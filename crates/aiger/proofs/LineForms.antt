@@ -2,7 +2,7 @@
 use Rattle.std.proofs.Common.{◌≡◌, ℕ, ◌^◌, ◌<◌, cond, eqb, List, [], ◌∷◌, ◌++◌, Some, None, codes, decimal, Option, sym, refl, ap, ◌∙◌, subst, inl, inr, append_assoc}
 use Rattle.std.proofs.lemmas.Bool.{cases_Bool, eqb-true}
 use Rattle.std.specs.Option.{option_to_list}
-use Rattle.std.specs.List.{AllByRecursion as All}
+use Rattle.std.specs.List.{AllByRecursion}
 use Rattle.aiger.specs.declared.lines.Header.{Header}
 use Rattle.aiger.specs.declared.lines.FlopLine.{FlopLine}
 use Rattle.aiger.specs.declared.lines.GateLine.{GateLine}
@@ -28,11 +28,11 @@ gate_read : (own l r : ℕ) (t : List ℕ) → own < 2 ^ 32 → l < 2 ^ 32 → r
 gate_read own l r t a b d =
     let p = numeral_of_line own (l ∷ r ∷ []) t a in let q = field_of_line l (r ∷ []) t b in let s = field_of_line r [] t d in rw (p, q, s) refl
 
-third_read : (r : Option ℕ) (t : List ℕ) → All (λ m. m < 2 ^ 32) (option_to_list r) → third (further (option_to_list r) ++ t) ≡ Some (r, t)
+third_read : (r : Option ℕ) (t : List ℕ) → AllByRecursion (λ m. m < 2 ^ 32) (option_to_list r) → third (further (option_to_list r) ++ t) ≡ Some (r, t)
 third_read None t h = refl
 third_read (Some n) t h = let a = field_of_line n [] t h.0 in rw a refl
 
-flop_read : (own n : ℕ) (r : Option ℕ) (t : List ℕ) → own < 2 ^ 32 → n < 2 ^ 32 → All (λ m. m < 2 ^ 32) (option_to_list r)
+flop_read : (own n : ℕ) (r : Option ℕ) (t : List ℕ) → own < 2 ^ 32 → n < 2 ^ 32 → AllByRecursion (λ m. m < 2 ^ 32) (option_to_list r)
     → flop (line own (n ∷ option_to_list r) ++ t) ≡ Some (record { own = own; next = n; third = r }, t)
 flop_read own n r t a b d =
     let p = numeral_of_line own (n ∷ option_to_list r) t a in let q = field_of_line n (option_to_list r) t b in let s = third_read r t d in rw (p, q, s) refl
@@ -68,7 +68,7 @@ byte_exact b (x ∷ t) p e = elim (cases_Bool (eqb x b)) [
 
 -- u begins with the fields of these numbers and the end of the line, and v follows
 abbrev Ends : List ℕ → List ℕ → List ℕ → Type 0
-Ends u ns v = (u ≡ further ns ++ v) × All (λ m. m < 2 ^ 32) ns
+Ends u ns v = (u ≡ further ns ++ v) × AllByRecursion (λ m. m < 2 ^ 32) ns
 
 end_exact : (u : List ℕ) (p : Unit {0} × List ℕ) → byte 10 u ≡ Some p → Ends u [] p.1
 end_exact u p e = (byte_exact 10 u p e, tt)

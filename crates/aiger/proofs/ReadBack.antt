@@ -3,7 +3,7 @@ use Rattle.std.proofs.Common.{◌≡◌, ℕ, zero, suc, ◌+◌, ◌^◌, ◌<�
 use Rattle.std.proofs.lemmas.List.FromFn.{fill_by_all}
 use Rattle.std.proofs.ByRecursion.{All-get_or}
 use Rattle.std.proofs.lemmas.Bool.{eq-eqb, lt-leb, le-ltb}
-use Rattle.std.specs.List.{range_with_len, flat_map, AllByRecursion as All}
+use Rattle.std.specs.List.{range_with_len, flat_map, AllByRecursion}
 use Rattle.std.specs.Option.{option_to_list}
 use Rattle.aiger.specs.declared.fault.ReadFault.{ReadFault}
 use Rattle.circuits.specs.declared.counts.Counts.{Counts}
@@ -62,7 +62,7 @@ abbrev flop_item : Net → (ℕ → Bool) → ℕ → FlopLine
 flop_item net bare j = record
     { own = flop_literal net.counts j; next = next_at net j; third = third_of (bare j) (flop_literal net.counts j) (pin_at net j) }
 
-thirds_small : (bare : Bool) (own p : ℕ) → own < 2 ^ 32 → All (λ m. m < 2 ^ 32) (option_to_list (third_of bare own p))
+thirds_small : (bare : Bool) (own p : ℕ) → own < 2 ^ 32 → AllByRecursion (λ m. m < 2 ^ 32) (option_to_list (third_of bare own p))
 thirds_small true own zero h = tt
 thirds_small false own zero h = (omega arith, tt)
 thirds_small bare own (suc zero) h = (omega arith, tt)

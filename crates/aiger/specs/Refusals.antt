@@ -1,6 +1,6 @@
 -- The refusals of a netlist's text: their numbers, and the order in which they are told.
 use Rattle.std.specs.Prelude.{◌≡◌, ℕ, ◌<◌, ◌≤◌, true, List, [], ◌∷◌}
-use Rattle.std.specs.List.{AllByRecursion as All}
+use Rattle.std.specs.List.{AllByRecursion}
 use Rattle.circuits.specs.Checks.{Check}
 use Rattle.aiger.specs.declared.fault.Refusal.{Refusal}
 use Rattle.aiger.specs.declared.fault.Refusal.TheVariants.{MalformedHeader, WrongCounts, MalformedLine, WrongLiteral, LargeLiteral, WrongPin, FewWords}
@@ -21,4 +21,4 @@ Rising n (c ∷ cs) = (n < number c.0) × Rising (number c.0) cs
 
 -- no check that is due has a lower number than r
 abbrev pub Lowest : Refusal → List (Check Refusal) → Type 0
-Lowest r cs = All (λ c. c.1 ≡ true → number r ≤ number c.0) cs
+Lowest r cs = AllByRecursion (λ c. c.1 ≡ true → number r ≤ number c.0) cs

@@ -1,6 +1,6 @@
 -- The written forms of a circuit.
 use Rattle.std.specs.Prelude.{◌≡◌, ℕ, zero, suc, ◌^◌, ◌<◌, Bool, cond, List, [], ◌∷◌, ◌++◌, codes, decimal}
-use Rattle.std.specs.List.{range_with_len, flat_map, AllByRecursion as All}
+use Rattle.std.specs.List.{range_with_len, flat_map, AllByRecursion}
 use Rattle.circuits.specs.declared.counts.Counts.{Counts}
 use Rattle.circuits.specs.Net.{Net, last_net, input_literal, flop_literal, gate_literal, gate_at, next_at, pin_at, out_at}
 
@@ -14,7 +14,7 @@ line n ns = decimal n ++ further ns
 
 -- t begins with the line of these numbers, each below 2 ^ 32, and u follows
 abbrev pub StartsLine : List ℕ → ℕ → List ℕ → List ℕ → Type 0
-StartsLine t n ns u = (t ≡ line n ns ++ u) × All (λ m. m < 2 ^ 32) (n ∷ ns)
+StartsLine t n ns u = (t ≡ line n ns ++ u) × AllByRecursion (λ m. m < 2 ^ 32) (n ∷ ns)
 
 -- line 1: aag M I L O A
 abbrev pub header_text : Counts → List ℕ

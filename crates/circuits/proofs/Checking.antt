@@ -1,6 +1,6 @@
 -- Checks one after the other, and what their passing says.
 use Rattle.std.proofs.Common.{◌≡◌, ℕ, true, false, List, [], ◌∷◌, ◌++◌, Some, None, Ok, Err, Option, Result, refl, ap, arith}
-use Rattle.std.specs.List.{AllByRecursion as All}
+use Rattle.std.specs.List.{AllByRecursion}
 use Rattle.circuits.specs.Checks.{Check, first_due, unless_due}
 
 module _ {X F : Type 0} where
@@ -37,12 +37,12 @@ module _ {F : Type 0} where
   due_first ((g, false) ∷ cs) ds f e = due_first cs ds f e
 
   -- none is due exactly where each is not
-  pub all_passed : (cs : List (Check F)) → first_due cs ≡ None → All (λ c. c.1 ≡ false) cs
+  pub all_passed : (cs : List (Check F)) → first_due cs ≡ None → AllByRecursion (λ c. c.1 ≡ false) cs
   all_passed [] e = tt
   all_passed ((f, true) ∷ cs) e = let z : ◌≡◌ {A = ℕ} 0 1 = cc in absurd (omega arith)
   all_passed ((f, false) ∷ cs) e = (refl, all_passed cs e)
 
-  pub none_due : (cs : List (Check F)) → All (λ c. c.1 ≡ false) cs → first_due cs ≡ None
+  pub none_due : (cs : List (Check F)) → AllByRecursion (λ c. c.1 ≡ false) cs → first_due cs ≡ None
   none_due [] a = refl
   none_due ((f, true) ∷ cs) a = let h = a.0 in let z : ◌≡◌ {A = ℕ} 0 1 = cc in absurd (omega arith)
   none_due ((f, false) ∷ cs) a = none_due cs a.1

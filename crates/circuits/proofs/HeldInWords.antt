@@ -1,6 +1,6 @@
 -- Words that are well laid hold a circuit, and words that hold a circuit are well laid.
 use Rattle.std.proofs.Common.{◌≡◌, ℕ, zero, suc, ◌+◌, ◌*◌, ◌<◌, ◌≤◌, List, [], ◌∷◌, ◌++◌, map, length, get_or, take, drop, sym, refl, ap, ◌∙◌, subst, arith}
-use Rattle.std.specs.List.{range_with_len, AllByRecursion as All}
+use Rattle.std.specs.List.{range_with_len, AllByRecursion}
 use Rattle.std.proofs.lemmas.List.FromFn.{length-map-range_with_len, get_or-map-range_with_len}
 use Rattle.std.proofs.ByRecursion.{All-from_get_or, All-get_or}
 use Rattle.std.proofs.lemmas.List.{append_assoc, ext_get_or, get_or-append-add, get_or_append_left, get_or-drop, get_or_past, get_or-take, length-append, length-drop, length-take, drop-drop, drop_more, drop-take, take-append-drop, take-take}
@@ -19,12 +19,12 @@ module _ {X : Type 0} (f : ℕ → X) (n : ℕ) where
   pub made_past : (k : ℕ) (d : X) → n ≤ k → d ≡ get_or (map f (range_with_len 0 n)) k d
   made_past k d h = sym (get_or_past (map f (range_with_len 0 n)) k d (omega (arith, length-map-range_with_len f 0 n)))
 
-  made_keeps : (P : X → Type 0) (d : X) → ((k : ℕ) → k < n → P (f k)) → All P (map f (range_with_len 0 n))
+  made_keeps : (P : X → Type 0) (d : X) → ((k : ℕ) → k < n → P (f k)) → AllByRecursion P (map f (range_with_len 0 n))
   made_keeps P d h =
       All-from_get_or P (map f (range_with_len 0 n)) d (λ k l.
       let l' : k < n = omega (arith, length-map-range_with_len f 0 n) in subst P (made_at k d l') (h k l'))
 
-  made_kept : (P : X → Type 0) (d : X) → All P (map f (range_with_len 0 n)) → (k : ℕ) → k < n → P (f k)
+  made_kept : (P : X → Type 0) (d : X) → AllByRecursion P (map f (range_with_len 0 n)) → (k : ℕ) → k < n → P (f k)
   made_kept P d a k l =
       subst P (sym (made_at k d l)) (All-get_or P (map f (range_with_len 0 n)) k d (omega (arith, length-map-range_with_len f 0 n)) a)
 

@@ -2,7 +2,7 @@
 use Rattle.std.proofs.Common.{◌≡◌, ℕ, zero, suc, List, [], ◌∷◌, map, length, get_or, sym, refl, ap, ◌∙◌, subst, ⊎_elim}
 use mathlib.Core.Path.{fun_ext}
 use mathlib.Core.List.{map-map}
-use Rattle.std.specs.List.{AllByRecursion as All}
+use Rattle.std.specs.List.{AllByRecursion}
 use Rattle.std.proofs.ByRecursion.{All-get_or}
 use Rattle.std.proofs.lemmas.List.{get_or_past, map-id}
 use Rattle.std.proofs.lemmas.Bool.{cases_lt}
@@ -22,6 +22,6 @@ get_or_mapped f d e z (x ∷ xs) zero = refl
 get_or_mapped f d e z (x ∷ xs) (suc i) = get_or_mapped f d e z xs i
 
 -- what holds of the default and of each element is so at any place
-pub any_get_or : {X : Type 0} (P : X → Type 0) (xs : List X) (d : X) → P d → All P xs → (i : ℕ) → P (get_or xs i d)
+pub any_get_or : {X : Type 0} (P : X → Type 0) (xs : List X) (d : X) → P d → AllByRecursion P xs → (i : ℕ) → P (get_or xs i d)
 any_get_or P xs d z a i =
     ⊎_elim (λ h. All-get_or P xs i d h a) (λ h. subst P (sym (get_or_past xs i d h)) z) (cases_lt i (length xs))

@@ -1,7 +1,7 @@
 -- What padding keeps: the bounds, and what a cycle gives.
 use Rattle.std.proofs.Common.{◌≡◌, ℕ, ◌+◌, ◌-◌, ◌*◌, ◌/◌, ◌%◌, ◌<◌, ◌≤◌, min, Bool, false, leb, List, [], ◌∷◌, ◌++◌, map, length, get_or, take, drop, sym, refl, ap, ◌∙◌, subst, ap₂, arith}
 use mathlib.Core.List.{map-map}
-use Rattle.std.specs.List.{AllByRecursion as All}
+use Rattle.std.specs.List.{AllByRecursion}
 use Rattle.std.proofs.lemmas.List.FromFn.{fill_by_all, take-map-range_with_len}
 use Rattle.std.proofs.ByRecursion.{All-append, all_from_every, All-map, All-weaker}
 use Rattle.std.proofs.lemmas.List.{append_assoc, get_or_append_left, length-append, length-map, map-append, take_all, take-append-drop}
@@ -30,11 +30,11 @@ padded_bounded n ds b f =
     let up_le : (x : ℕ) → renumbered to x ≤ x + 2 * length ds = renumbered_le c (length ds) in
     let Low : ℕ → Type 0 = λ x. x ≤ top c in
     let Low' : ℕ → Type 0 = λ x. x ≤ top c' in
-    let all-low : (xs : List ℕ) → All Low xs → All Low' (map (renumbered to) xs) = λ xs h.
+    let all-low : (xs : List ℕ) → AllByRecursion Low xs → AllByRecursion Low' (map (renumbered to) xs) = λ xs h.
     All-map Low' (renumbered to) xs (All-weaker Low (λ x. Low' (renumbered to x)) (λ x l. omega (arith, up_le x)) xs h) in
-    let dummies-low : All Low (map (λ d. d.next) ds) =
+    let dummies-low : AllByRecursion Low (map (λ d. d.next) ds) =
     All-map Low (λ d. d.next) ds (All-weaker (Fits c) (λ d. d.next ≤ top c) (λ _ h. h.0) ds f.1) in
-    let dummy-pins : All (λ p. p ≤ 2) (map (λ d. d.pin) ds) =
+    let dummy-pins : AllByRecursion (λ p. p ≤ 2) (map (λ d. d.pin) ds) =
     All-map (λ p. p ≤ 2) (λ d. d.pin) ds (All-weaker (Fits c) (λ d. d.pin ≤ 2) (λ _ h. h.1) ds f.1) in
     record {
       counts_in = record {
@@ -65,7 +65,7 @@ fitted_fits c ds b =
       All-map (Fits c) (fit c) ds' (all_from_every (λ d. Fits c (fit c d)) ds' (λ _ d _ _. (omega arith, omega arith))),
     )
 
-fit_same : (c : Counts) (ds : List Dummy) → All (Fits c) ds → map (fit c) ds ≡ ds
+fit_same : (c : Counts) (ds : List Dummy) → AllByRecursion (Fits c) ds → map (fit c) ds ≡ ds
 fit_same c [] h = refl
 fit_same c (d ∷ ds) (h, hs) =
     let x : min d.next (top c) ≡ d.next = omega (arith, h.0) in

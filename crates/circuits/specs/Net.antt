@@ -1,6 +1,6 @@
 -- Circuits of gates and flops: what they are, their bounds, and what one cycle gives.
 use Rattle.std.specs.Prelude.{◌≡◌, ℕ, zero, suc, ◌+◌, ◌*◌, ◌/◌, ◌%◌, ◌<◌, ◌≤◌, Bool, true, false, not, ◌&&◌, List, [], ◌∷◌, ◌++◌, map, length, get_or, nat_le, slice_index, slice_index_or}
-use Rattle.std.specs.List.{range_with_len, flat_map, AllByRecursion as All}
+use Rattle.std.specs.List.{range_with_len, flat_map, AllByRecursion}
 use Rattle.circuits.specs.declared.counts.Counts.{Counts}
 
 -- Net 0 is false, then come the inputs, the flops and the gates. Literal 2v is net v, and 2v + 1 its inverse.
@@ -64,9 +64,9 @@ pub record Bounded (net : Net) : Type 0 where
   -- the operands of a gate are below its own literal
   pub operands_in : (i : ℕ) → i < net.counts.gates
       → ((gate_at net i).0 < gate_literal net.counts i) × ((gate_at net i).1 < gate_literal net.counts i)
-  pub nexts_in : All (λ x. x ≤ top net.counts) net.nexts
-  pub pins_in : All (λ p. p ≤ 2) net.pins
-  pub outs_in : All (λ x. x ≤ top net.counts) net.outs
+  pub nexts_in : AllByRecursion (λ x. x ≤ top net.counts) net.nexts
+  pub pins_in : AllByRecursion (λ p. p ≤ 2) net.pins
+  pub outs_in : AllByRecursion (λ x. x ≤ top net.counts) net.outs
 
 -- A circuit in words: the operands of each gate, the next literals, the pins, the output literals.
 abbrev pub operand_words : List (ℕ × ℕ) → List ℕ

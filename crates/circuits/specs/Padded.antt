@@ -1,6 +1,6 @@
 -- Padded circuits: dummy flops stand after a circuit's own.
 use Rattle.std.specs.Prelude.{◌≡◌, ℕ, ◌+◌, ◌-◌, ◌≤◌, min, Bool, cond, List, ◌++◌, map, length, take, nat_le}
-use Rattle.std.specs.List.{AllByRecursion as All}
+use Rattle.std.specs.List.{AllByRecursion}
 use Rattle.circuits.specs.declared.counts.Counts.{Counts}
 use Rattle.circuits.specs.declared.dummy.Dummy.{Dummy}
 use Rattle.circuits.specs.Net.{Net, Bounded, top, value, values, cycle_outs, cycle_nexts}
@@ -29,7 +29,7 @@ padded n ds =
 
 -- dummies that fit a circuit of these counts
 abbrev pub Fitting : Counts → List Dummy → Type 0
-Fitting c ds = (c.flops + length ds ≤ 256) × All (λ d. (d.next ≤ top c) × (d.pin ≤ 2)) ds
+Fitting c ds = (c.flops + length ds ≤ 256) × AllByRecursion (λ d. (d.next ≤ top c) × (d.pin ≤ 2)) ds
 
 -- The laws of padding. Whatever the dummies hold, the outputs and the next bits of the flops are those of the circuit below; a dummy's next
 -- bit is that of its next literal there.

@@ -1,7 +1,7 @@
 -- The rows of a plan: their circuits, and how many gates these have.
 use Rattle.std.proofs.Common.{◌≡◌, ℕ, zero, suc, ◌+◌, ◌-◌, ◌*◌, ◌<◌, ◌≤◌, Bool, true, false, cond, ◌&&◌, eqb, ltb, leb, List, [], ◌∷◌, ◌++◌, length, get_or, take, replicate, Some, None, Option, sym, refl, ap, ◌∙◌, subst, ap₂, ⊎_elim, arith, length-append}
 use lib.ListN.{length-replicate}
-use Rattle.std.specs.List.{AllByRecursion as All}
+use Rattle.std.specs.List.{AllByRecursion}
 use Rattle.std.proofs.ByRecursion.{All-append}
 use Rattle.std.proofs.lemmas.List.{get_or_append_left, get_or-append_right, get_or-replicate, take-replicate}
 use Rattle.std.proofs.lemmas.Bool.{cases_Bool, cases_lt, and_parts, eqb-true, leb-true, cond-true, cond-false, lt-ltb, le-ltb, false≢true}
@@ -31,7 +31,7 @@ use Rattle.clauses.proofs.Gates.{before_front, before_back}
 length_two : {X : Type 0} (n k : ℕ) (x y : X) → length (replicate n x ++ replicate k y) ≡ n + k
 length_two n k x y = length-append (replicate n x) (replicate k y) ∙ ap₂ ◌+◌ (length-replicate n x) (length-replicate k y)
 
-all_replicate : {X : Type 0} (P : X → Type 0) (n : ℕ) (x : X) → P x → All P (replicate n x)
+all_replicate : {X : Type 0} (P : X → Type 0) (n : ℕ) (x : X) → P x → AllByRecursion P (replicate n x)
 all_replicate P zero x p = tt
 all_replicate P (suc n) x p = (p, all_replicate P n x p)
 
@@ -113,7 +113,7 @@ module _ (a b : Net) (ba : Bounded a) (bb : Bounded b) where
         ∙ ap (on a b) (sym (cond-false (ltb t r.turn) r.front (other_side r.front) (le-ltb t r.turn e))))
         (cases_lt t r.turn)
 
-    pub all_in_row : (P : Net → Type 0) → ((s : Side) → P (on a b s)) → All P (row_of a b r f)
+    pub all_in_row : (P : Net → Type 0) → ((s : Side) → P (on a b s)) → AllByRecursion P (row_of a b r f)
     all_in_row P each =
         All-append P (replicate r.turn x) (replicate (f - r.turn) y) (all_replicate P r.turn x (each r.front))
         (all_replicate P (f - r.turn) y (each (other_side r.front)))

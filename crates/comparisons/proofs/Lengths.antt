@@ -1,7 +1,7 @@
 -- A circuit reads no more bits than it has flops and inputs. So equality over rows of bits of any lengths is equality over those of the right
 -- lengths, and the clauses are refutable exactly then.
 use Rattle.std.proofs.Common.{◌≡◌, ℕ, ◌<◌, ◌≤◌, Bool, false, ◌↔◌, List, [], ◌∷◌, map, length, get_or, sym, refl, ◌∙◌, arith}
-use Rattle.std.specs.List.{AllByRecursion as All}
+use Rattle.std.specs.List.{AllByRecursion}
 use Rattle.std.proofs.lemmas.List.{length-map}
 use Rattle.circuits.specs.Net.{Net, first}
 use Rattle.comparisons.specs.Machine.{Any, machine, Bits, FitsPins}
@@ -18,7 +18,7 @@ module _ (inputs flops outs : ℕ) (pins : List ℕ) where
       to_list [] (FitsPins pins) Any (map machine left) (map machine right) (length-map left machine ∙ l ∙ sym (length-map right machine)) equal s p ws m
       (all_any ws)
 
-  from_lists : (left right : List Net) → All (Sized inputs flops outs) left → All (Sized inputs flops outs) right → length left ≡ length right → length pins ≤ flops
+  from_lists : (left right : List Net) → AllByRecursion (Sized inputs flops outs) left → AllByRecursion (Sized inputs flops outs) right → length left ≡ length right → length pins ≤ flops
       → 0 < length left → EqualRows (record { inputs = inputs; flops = flops; pins = pins; left = left; right = right }) → Equal (FitsPins pins) (map machine left) (map machine right)
   from_lists left right fl fr l size some equal s p ws =
       let L = map machine left in
@@ -31,14 +31,14 @@ module _ (inputs flops outs : ℕ) (pins : List ℕ) where
       (tabulate n us) (length_tabulate n us) (all_tabulate (Bits inputs) n us (λ t b. length_first false inputs (ws t))) in
       let a = on_list L x n refl us in
       let b = on_list R x n (length-map left machine ∙ l ∙ sym (length-map right machine)) us in
-      let same : (row : List Net) → All (Sized inputs flops outs) row → 0 < length row → _
+      let same : (row : List Net) → AllByRecursion (Sized inputs flops outs) row → 0 < length row → _
       = λ row fits m. (same_run inputs flops outs row fits m s x ws us (sym (first_whole false flops x (length_first false flops s)))
       (λ t b. sym (first_whole false inputs (us t) (length_first false inputs (ws t))))).1 in
       split_results inputs flops outs left right fl fr l s s ws refl
       (same left fl some ∙ joined_results left right x x us l (a.0 ∙ o ∙ sym b.0) (a.1 ∙ f ∙ sym b.1) ∙ sym (same right fr (omega arith)))
 
 pub lengths_agree : (inputs flops outs : ℕ) (pins : List ℕ) (left right : List Net)
-    → All (Sized inputs flops outs) left → All (Sized inputs flops outs) right → length left ≡ length right → length pins ≤ flops
+    → AllByRecursion (Sized inputs flops outs) left → AllByRecursion (Sized inputs flops outs) right → length left ≡ length right → length pins ≤ flops
     → Equal (FitsPins pins) (map machine left) (map machine right) ↔ EqualRows (record { inputs = inputs; flops = flops; pins = pins; left = left; right = right })
 lengths_agree inputs flops outs pins [] [] fl fr l size = (to_lists inputs flops outs pins [] [] l, λ equal s p ws. (refl, refl))
 lengths_agree inputs flops outs pins [] (b ∷ right) fl fr l size = absurd (omega arith)
@@ -46,7 +46,7 @@ lengths_agree inputs flops outs pins (a ∷ left) right fl fr l size =
     (to_lists inputs flops outs pins (a ∷ left) right l, from_lists inputs flops outs pins (a ∷ left) right fl fr l size (omega arith))
 
 pub clauses_sound : (inputs flops outs : ℕ) (pins : List ℕ) (left right : List Net)
-    → All (Sized inputs flops outs) left → All (Sized inputs flops outs) right → length left ≡ length right → length pins ≤ flops
+    → AllByRecursion (Sized inputs flops outs) left → AllByRecursion (Sized inputs flops outs) right → length left ≡ length right → length pins ≤ flops
     → Refutable (given_clauses inputs flops (pin_literals pins 2) left right)
     ↔ EqualRows (record { inputs = inputs; flops = flops; pins = pins; left = left; right = right })
 clauses_sound inputs flops outs pins left right fl fr l size =

@@ -1,6 +1,6 @@
 -- Each clause stands where its number says.
 use Rattle.std.proofs.Common.{◌≡◌, ℕ, zero, suc, ◌+◌, ◌-◌, ◌*◌, ◌/◌, ◌%◌, ◌<◌, ◌≤◌, List, [], ◌∷◌, ◌++◌, map, length, get_or, take, sym, refl, ap, ◌∙◌, ap₂, inl, inr, append_assoc, append-nil, arith, length-append}
-use Rattle.std.specs.List.{AllByRecursion as All}
+use Rattle.std.specs.List.{AllByRecursion}
 use Rattle.std.proofs.lemmas.List.{get_or_append_left, get_or-append-add, get_or-map, length-map}
 use Rattle.std.proofs.lemmas.Bool.{cases_lt}
 use Rattle.circuits.specs.Net.{Net, Bounded, gate_at, next_at, out_at, first, turned, before}
@@ -120,7 +120,7 @@ module _ (net : Net) (row : List Net) (s : List ℕ) (ws : ℕ → List ℕ) (z 
   names_on : (t : ℕ) → names_at (net ∷ row) s ws z (suc t) ≡ names_at row s' (rest ws) z' t
   names_on t = ap₂ (λ x y. names (net_at row t) x (ws (suc t)) y) (flops_on t) (cycle_on t)
 
-row_place : (row : List Net) → All Bounded row → (s : List ℕ) (ws : ℕ → List ℕ) (z t i r : ℕ) → t < length row → i < length (net_at row t).operands → r < 3
+row_place : (row : List Net) → AllByRecursion Bounded row → (s : List ℕ) (ws : ℕ → List ℕ) (z t i r : ℕ) → t < length row → i < length (net_at row t).operands → r < 3
     → get_or (row_clauses row s ws z) (3 * (gate_count (take t row) + i) + r) []
     ≡ gate_clause r (z + (gate_count (take t row) + i))
     (named (names_at row s ws z t) (gate_at (net_at row t) i).0) (named (names_at row s ws z t) (gate_at (net_at row t) i).1)
@@ -147,7 +147,7 @@ row_place (net ∷ row) (b, back) s ws z (suc t) i r lt li lr =
 -- what is compared
 
 module _ (inputs flops outs : ℕ) where
-  output_place : (row : List Net) → All (Sized inputs flops outs) row → (s : List ℕ) (ws : ℕ → List ℕ) (z t j : ℕ) → t < length row → j < outs
+  output_place : (row : List Net) → AllByRecursion (Sized inputs flops outs) row → (s : List ℕ) (ws : ℕ → List ℕ) (z t j : ℕ) → t < length row → j < outs
       → get_or (row_results row s ws z) (t * outs + j) off ≡ named (names_at row s ws z t) (out_at (net_at row t) j)
   output_place [] fits s ws z t j lt lj = absurd (omega arith)
   output_place (net ∷ row) (f, fits) s ws z zero j lt lj =
@@ -168,7 +168,7 @@ module _ (inputs flops outs : ℕ) where
       ∙ output_place row fits (s' net row s ws z) (rest ws) (z' net row s ws z) t j (omega arith) lj
       ∙ ap (λ n. named n (out_at (net_at row t) j)) (sym (names_on net row s ws z t))
 
-  final_place : (row : List Net) → All (Sized inputs flops outs) row → (s : List ℕ) (ws : ℕ → List ℕ) (z j : ℕ)
+  final_place : (row : List Net) → AllByRecursion (Sized inputs flops outs) row → (s : List ℕ) (ws : ℕ → List ℕ) (z j : ℕ)
       → get_or (row_results row s ws z) (length row * outs + j) off ≡ get_or (flops_at row s ws z (length row)) j off
   final_place [] fits s ws z j = let e : 0 * outs + j ≡ j = omega arith in rw e
   final_place (net ∷ row) (f, fits) s ws z j =
@@ -181,12 +181,12 @@ module _ (inputs flops outs : ℕ) where
       ∙ final_place row fits (s' net row s ws z) (rest ws) (z' net row s ws z) j
       ∙ ap (λ x. get_or x j off) (sym (flops_on net row s ws z (length row)))
 
-  nexts_at : (row : List Net) → All (Sized inputs flops outs) row → (t : ℕ) → t < length row → length (net_at row t).nexts ≡ flops
+  nexts_at : (row : List Net) → AllByRecursion (Sized inputs flops outs) row → (t : ℕ) → t < length row → length (net_at row t).nexts ≡ flops
   nexts_at [] fits t l = absurd (omega arith)
   nexts_at (net ∷ row) (f, fits) zero l = f.nexts_are
   nexts_at (net ∷ row) (f, fits) (suc t) l = nexts_at row fits t (omega arith)
 
-  flop_place : (row : List Net) → All (Sized inputs flops outs) row → (s : List ℕ) (ws : ℕ → List ℕ) (z t j : ℕ) → t < length row → j < flops
+  flop_place : (row : List Net) → AllByRecursion (Sized inputs flops outs) row → (s : List ℕ) (ws : ℕ → List ℕ) (z t j : ℕ) → t < length row → j < flops
       → get_or (flops_at row s ws z (suc t)) j off ≡ named (names_at row s ws z t) (next_at (net_at row t) j)
   flop_place row fits s ws z t j lt lj =
       let n = nexts_at row fits t lt in get_or-map (named (names_at row s ws z t)) (net_at row t).nexts j 0 off (omega arith)
@@ -284,7 +284,7 @@ module _ (x : List ℕ) (As Bs Cs Ds Es : List (List ℕ)) where
       later c j (omega arith) ∙ get_or-append-add (As ++ Bs ++ Cs ++ Ds) Es k []
 
 pub placed : (inputs flops outs : ℕ) (fixed : List ℕ) (left right : List Net)
-    → All (Sized inputs flops outs) left → All (Sized inputs flops outs) right → length left ≡ length right → All Bounded left → All Bounded right
+    → AllByRecursion (Sized inputs flops outs) left → AllByRecursion (Sized inputs flops outs) right → length left ≡ length right → AllByRecursion Bounded left → AllByRecursion Bounded right
     → Placed inputs flops outs fixed left right
 placed inputs flops outs fixed left right fl fr same bl br =
     let s = start inputs flops in

@@ -1,6 +1,6 @@
 -- What the checks of opening decide.
 use Rattle.std.proofs.Common.{◌≡◌, ℕ, ◌+◌, ◌≤◌, Bool, true, false, not, ◌&&◌, eqb, leb, List, [], ◌∷◌, map, Some, None, Option, sym, refl, ap, ◌∙◌, ap₂, inl, inr, arith}
-use Rattle.std.specs.List.{AllByRecursion as All}
+use Rattle.std.specs.List.{AllByRecursion}
 use Rattle.std.proofs.lemmas.Bool.{false≢true, both_ways, cases_Bool, and_parts, and_from, and_left, and_right, eqb-true, eq-eqb, leb-true, le-leb, not-false, not_from_true}
 use Rattle.circuits.specs.Checks.{first_due}
 use Rattle.circuits.specs.Net.{Net, Bounded}
@@ -44,7 +44,7 @@ tabled n k rule e =
 pub in_the_table : (n k : ℕ) (rule : Rule) → InTable rule n k → in_table (Some rule) n k ≡ true
 in_the_table n k rule t = and_from (deep_enough rule n k) (leb (n + k) 8) (true_deep rule n k t.0) (le-leb (n + k) 8 t.1)
 
-few_all : (cs : List Comparison) → All (λ (c : Comparison). (formula c).variables ≤ 135681) cs → few_variables (map formula cs) ≡ true
+few_all : (cs : List Comparison) → AllByRecursion (λ (c : Comparison). (formula c).variables ≤ 135681) cs → few_variables (map formula cs) ≡ true
 few_all [] a = refl
 few_all (c ∷ cs) (b, a) =
     and_from (leb (formula c).variables 262143) (few_variables (map formula cs)) (le-leb (formula c).variables 262143 (omega arith)) (few_all cs a)

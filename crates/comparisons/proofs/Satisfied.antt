@@ -1,6 +1,6 @@
 -- The clauses of two rows can all hold exactly where the rows differ.
 use Rattle.std.proofs.Common.{◌≡◌, ℕ, zero, suc, ◌+◌, ◌-◌, ◌*◌, ◌/◌, ◌%◌, ◌<◌, ◌≤◌, Bool, true, false, not, ◌&&◌, ◌||◌, ◌↔◌, List, [], ◌∷◌, ◌++◌, map, length, get_or, sym, refl, ap, ◌∙◌, subst, ap₂, inl, inr, mul-le-mul_right, arith, length-append}
-use Rattle.std.specs.List.{range_with_len, AllByRecursion as All}
+use Rattle.std.specs.List.{range_with_len, AllByRecursion}
 use Rattle.std.proofs.lemmas.List.{map-append, length-map, get_or_append_left, get_or_past}
 use Rattle.std.proofs.ByRecursion.{All-append}
 use Rattle.std.proofs.lemmas.Bool.{false≢true, or_cases, or_parts, cases_lt}
@@ -77,7 +77,7 @@ module _ (v : ℕ → Bool) where
 
 -- satisfied
 
-pub both : {A : Type 0} (P : A → Type 0) (xs ys : List A) → All P (xs ++ ys) → All P xs × All P ys
+pub both : {A : Type 0} (P : A → Type 0) (xs ys : List A) → AllByRecursion P (xs ++ ys) → AllByRecursion P xs × AllByRecursion P ys
 both P [] ys h = (tt, h)
 both P (x ∷ xs) ys (p, h) = let r = both P xs ys h in ((p, r.0), r.1)
 
@@ -294,7 +294,7 @@ joined_results (a ∷ left) (b ∷ right) x y ws l o f =
     let head : (machine a).out x (ws 0) ≡ (machine b).out y (ws 0) = cc in ap₂ ◌++◌ head more
 
 module _ (inputs flops outs : ℕ) where
-  pub split_results : (left right : List Net) → All (Sized inputs flops outs) left → All (Sized inputs flops outs) right → length left ≡ length right
+  pub split_results : (left right : List Net) → AllByRecursion (Sized inputs flops outs) left → AllByRecursion (Sized inputs flops outs) right → length left ≡ length right
       → (x y : List Bool) (ws : ℕ → List Bool) → length x ≡ length y → results left x ws ≡ results right y ws
       → (outputs (map machine left) x ws ≡ outputs (map machine right) y ws) × (final (map machine left) x ws ≡ final (map machine right) y ws)
   split_results [] [] fl fr l x y ws n e = (refl, e)
@@ -316,7 +316,7 @@ module _ (inputs flops outs : ℕ) where
   before_same net fits x y w u s i = rw (fits.inputs_are, fits.flops_are, s, i)
 
   -- a row reads no more of its start state and inputs than their bits, and of the inputs only those of its own cycles
-  pub same_run : (row : List Net) → All (Sized inputs flops outs) row → 0 < length row → (x y : List Bool) (ws us : ℕ → List Bool)
+  pub same_run : (row : List Net) → AllByRecursion (Sized inputs flops outs) row → 0 < length row → (x y : List Bool) (ws us : ℕ → List Bool)
       → first false flops x ≡ first false flops y
       → ((t : ℕ) → t < length row → first false inputs (ws t) ≡ first false inputs (us t))
       → (row_values row x ws ≡ row_values row y us) × (results row x ws ≡ results row y us)
@@ -450,7 +450,7 @@ witness inputs flops left right l bits size =
           (subst (Says v (z + gate_count left + gate_count right)) (ap₂ differs run-left.1 run-right.1) a3);
     }
 
-length_results : (inputs flops outs : ℕ) (row : List Net) → All (Sized inputs flops outs) row → (x : List Bool) (ws : ℕ → List Bool)
+length_results : (inputs flops outs : ℕ) (row : List Net) → AllByRecursion (Sized inputs flops outs) row → (x : List Bool) (ws : ℕ → List Bool)
     → length x ≡ flops → length (results row x ws) ≡ length row * outs + flops
 length_results inputs flops outs [] fits x ws l = omega arith
 length_results inputs flops outs (net ∷ row) (f, fits) x ws l =
@@ -533,7 +533,7 @@ length_vars zero z = refl
 length_vars (suc n) z = ap suc (length_vars n (suc z))
 
 module _ (inputs flops outs : ℕ) (pins : List ℕ) (left right : List Net)
-    (fl : All (Sized inputs flops outs) left) (fr : All (Sized inputs flops outs) right) (l : length left ≡ length right) (size : length pins ≤ flops) where
+    (fl : AllByRecursion (Sized inputs flops outs) left) (fr : AllByRecursion (Sized inputs flops outs) right) (l : length left ≡ length right) (size : length pins ≤ flops) where
   refuted : Equal (FitsPins pins) (map machine left) (map machine right) → Refutable (given_clauses inputs flops (pin_literals pins 2) left right)
   refuted equal v (first-clause, sat) =
       let low = low_forced (v 1) first-clause in
@@ -622,7 +622,7 @@ module _ (inputs flops outs : ℕ) (pins : List ℕ) (left right : List Net)
             (some-differ, tt))
             ((pins_hold v pins 2).1 (fits_move pins flops size (λ j. get_or s j false) (λ j. v (2 + j)) (λ j b. sym (says_at v 2 s' a0 j (omega (arith, length_first false flops s)) ∙ get_or_first false flops s j b)) pinned)),
       )) in
-      let to_bits : (row : List Net) → All (Sized inputs flops outs) row → 0 < length row → length row ≡ n → results row s ws ≡ results row (h v x) us''
+      let to_bits : (row : List Net) → AllByRecursion (Sized inputs flops outs) row → 0 < length row → length row ≡ n → results row s ws ≡ results row (h v x) us''
       = λ row fits m e. (same_run inputs flops outs row fits m s (h v x) ws us''
       (sym (ap (first false flops) starts ∙ first_whole false flops s' (length_first false flops s)))
       (λ t b. sym (ap (first false inputs) (reads t (omega arith)) ∙ first_whole false inputs (first false inputs (ws t)) (length_first false inputs (ws t))))).1 in
@@ -630,7 +630,7 @@ module _ (inputs flops outs : ℕ) (pins : List ℕ) (left right : List Net)
       (to_bits left fl some refl ∙ sym (got_left w) ∙ made.1 none ∙ got_right w ∙ sym (to_bits right fr (omega arith) (sym l)))
 
 equal_at_all : (inputs flops outs : ℕ) (pins : List ℕ) (left right : List Net)
-    → All (Sized inputs flops outs) left → All (Sized inputs flops outs) right → length left ≡ length right → length pins ≤ flops
+    → AllByRecursion (Sized inputs flops outs) left → AllByRecursion (Sized inputs flops outs) right → length left ≡ length right → length pins ≤ flops
     → Refutable (given_clauses inputs flops (pin_literals pins 2) left right) → Equal (FitsPins pins) (map machine left) (map machine right)
 equal_at_all inputs flops outs pins [] [] fl fr l size refutable s pinned ws = (refl, refl)
 equal_at_all inputs flops outs pins [] (b ∷ right) fl fr l size refutable s pinned ws = absurd (omega arith)
@@ -639,7 +639,7 @@ equal_at_all inputs flops outs pins (a ∷ left) right fl fr l size refutable s 
 
 -- over lists of any lengths
 pub clauses_total : (inputs flops outs : ℕ) (pins : List ℕ) (left right : List Net)
-    → All (Sized inputs flops outs) left → All (Sized inputs flops outs) right → length left ≡ length right → length pins ≤ flops
+    → AllByRecursion (Sized inputs flops outs) left → AllByRecursion (Sized inputs flops outs) right → length left ≡ length right → length pins ≤ flops
     → Refutable (given_clauses inputs flops (pin_literals pins 2) left right) ↔ Equal (FitsPins pins) (map machine left) (map machine right)
 clauses_total inputs flops outs pins left right fl fr l size =
     (equal_at_all inputs flops outs pins left right fl fr l size, refuted inputs flops outs pins left right fl fr l size)

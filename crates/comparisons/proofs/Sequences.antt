@@ -1,7 +1,7 @@
 -- Rows on infinite sequences of inputs. Equality on sequences needs no lengths, so the rules are proved for it; here is that it is the same.
 use Rattle.std.proofs.Common.{◌≡◌, ℕ, zero, suc, ◌<◌, ◌↔◌, List, [], ◌∷◌, length, get_or, replicate, sym, refl, ap, ◌∙◌, arith}
 use lib.ListN.{length-replicate}
-use Rattle.std.specs.List.{AllByRecursion as All}
+use Rattle.std.specs.List.{AllByRecursion}
 use Rattle.comparisons.specs.Machine as spec
 use Rattle.comparisons.specs.Machine.{Machine, Any}
 
@@ -18,11 +18,11 @@ pub length_tabulate : {X : Type 0} (n : ℕ) (f : ℕ → X) → length (tabulat
 length_tabulate zero f = refl
 length_tabulate (suc n) f = ap suc (length_tabulate n (λ k. f (suc k)))
 
-pub all_tabulate : {X : Type 0} (P : X → Type 0) (n : ℕ) (f : ℕ → X) → ((k : ℕ) → k < n → P (f k)) → All P (tabulate n f)
+pub all_tabulate : {X : Type 0} (P : X → Type 0) (n : ℕ) (f : ℕ → X) → ((k : ℕ) → k < n → P (f k)) → AllByRecursion P (tabulate n f)
 all_tabulate P zero f p = tt
 all_tabulate P (suc n) f p = (p 0 (omega arith), all_tabulate P n (λ k. f (suc k)) (λ k l. p (suc k) (omega arith)))
 
-pub all_any : {X : Type 0} (xs : List X) → All Any xs
+pub all_any : {X : Type 0} (xs : List X) → AllByRecursion Any xs
 all_any [] = tt
 all_any (x ∷ xs) = (tt, all_any xs)
 

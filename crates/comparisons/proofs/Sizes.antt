@@ -1,6 +1,6 @@
 -- How many variables and clauses a comparison has.
 use Rattle.std.proofs.Common.{◌≡◌, ℕ, zero, suc, ◌+◌, ◌*◌, ◌≤◌, List, [], ◌∷◌, ◌++◌, map, length, sym, refl, ap, ◌∙◌, mul-le-mul, arith, length-append}
-use Rattle.std.specs.List.{AllByRecursion as All}
+use Rattle.std.specs.List.{AllByRecursion}
 use Rattle.std.proofs.lemmas.List.{length-map}
 use Rattle.circuits.specs.Net.{Net, before}
 use Rattle.comparisons.specs.Clauses.{off, named, names, next_names, vars, gate_clauses, row_clauses, row_results, gate_count, difference_clauses, pin_literals, start, input, left_gates, right_gates, given_clauses, last_variable}
@@ -32,11 +32,11 @@ length_pins (zero ∷ pins) z = let more = length_pins pins (suc z) in omega ari
 length_pins (suc zero ∷ pins) z = let more = length_pins pins (suc z) in omega arith
 length_pins (suc (suc p) ∷ pins) z = let more = length_pins pins (suc z) in omega arith
 
-few_gates : (row : List Net) → All (λ net. length net.operands ≤ 8192) row → gate_count row ≤ length row * 8192
+few_gates : (row : List Net) → AllByRecursion (λ net. length net.operands ≤ 8192) row → gate_count row ≤ length row * 8192
 few_gates [] a = omega arith
 few_gates (net ∷ row) (g, a) = let more = few_gates row a in omega arith
 
-length_row_results : (inputs flops outs : ℕ) (row : List Net) → All (Sized inputs flops outs) row → (s : List ℕ) (ws : ℕ → List ℕ) (z : ℕ)
+length_row_results : (inputs flops outs : ℕ) (row : List Net) → AllByRecursion (Sized inputs flops outs) row → (s : List ℕ) (ws : ℕ → List ℕ) (z : ℕ)
     → length s ≡ flops → length (row_results row s ws z) ≡ length row * outs + flops
 length_row_results inputs flops outs [] f s ws z l = omega arith
 length_row_results inputs flops outs (net ∷ row) (f, fits) s ws z l =
@@ -46,8 +46,8 @@ length_row_results inputs flops outs (net ∷ row) (f, fits) s ws z l =
     omega (arith, more, length-append o (row_results row s' (rest ws) (z + length net.operands)), length-map net.outs (named (names net s (ws 0) z)), f.outs_are)
 
 module _ (inputs flops outs : ℕ) (fixed : List ℕ) (left right : List Net)
-    (fl : All (Sized inputs flops outs) left) (fr : All (Sized inputs flops outs) right) (same : length left ≡ length right) where
-  pub counted_results : (row : List Net) → All (Sized inputs flops outs) row → (z : ℕ)
+    (fl : AllByRecursion (Sized inputs flops outs) left) (fr : AllByRecursion (Sized inputs flops outs) right) (same : length left ≡ length right) where
+  pub counted_results : (row : List Net) → AllByRecursion (Sized inputs flops outs) row → (z : ℕ)
       → length (row_results row (start inputs flops) (input inputs flops) z) ≡ length row * outs + flops
   counted_results row f z =
       length_row_results inputs flops outs row f (start inputs flops) (input inputs flops) z (length_vars flops 2)
@@ -84,7 +84,7 @@ module _ (inputs flops outs : ℕ) (fixed : List ℕ) (left right : List Net)
       omega arith
 
   module _ (fixed-fit : length fixed ≤ flops) (inputs-few : inputs ≤ 256) (flops-few : flops ≤ 256) (outs-few : outs ≤ 256) (short : length left ≤ 8)
-      (gl : All (λ net. length net.operands ≤ 8192) left) (gr : All (λ net. length net.operands ≤ 8192) right) where
+      (gl : AllByRecursion (λ net. length net.operands ≤ 8192) left) (gr : AllByRecursion (λ net. length net.operands ≤ 8192) right) where
     pub few_clauses : length (given_clauses inputs flops fixed left right) ≤ 1000000
     few_clauses =
         let area : length left * outs ≤ 8 * 256 = mul-le-mul short outs-few in

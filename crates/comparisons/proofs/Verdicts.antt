@@ -1,7 +1,7 @@
 -- Equal comparisons make the verdict of their rule true, and their clauses decide whether they are equal.
 use Rattle.std.proofs.Common.{◌≡◌, ℕ, zero, suc, ◌+◌, ◌-◌, ◌≤◌, Bool, List, [], ◌∷◌, ◌++◌, map, length, replicate, sym, refl, ap, ◌∙◌, ap₂, subst₂, arith, length-append}
 use lib.ListN.{length-replicate}
-use Rattle.std.specs.List.{AllByRecursion as All}
+use Rattle.std.specs.List.{AllByRecursion}
 use Rattle.std.proofs.lemmas.List.{map-append}
 use Rattle.std.proofs.ByRecursion.{All-append}
 use Rattle.circuits.specs.Net.{Net, Bounded}
@@ -24,7 +24,7 @@ map_replicate : {X Y : Type 0} (f : X → Y) (n : ℕ) (x : X) → map f (replic
 map_replicate f zero x = refl
 map_replicate f (suc n) x = ap (λ r. f x ∷ r) (map_replicate f n x)
 
-all_replicate : {X : Type 0} (P : X → Type 0) (n : ℕ) (x : X) → P x → All P (replicate n x)
+all_replicate : {X : Type 0} (P : X → Type 0) (n : ℕ) (x : X) → P x → AllByRecursion P (replicate n x)
 all_replicate P zero x p = tt
 all_replicate P (suc n) x p = (p, all_replicate P n x p)
 
@@ -36,15 +36,15 @@ map_row a b n k = map-append machine (replicate n a) (replicate k b) ∙ ap₂ �
 pub record Fit (inputs flops outs most : ℕ) (c : Comparison) : Type 0 where
   pub inputs_are : c.inputs ≡ inputs
   pub flops_are : c.flops ≡ flops
-  pub left_fits : All (Sized c.inputs c.flops outs) c.left
-  pub right_fits : All (Sized c.inputs c.flops outs) c.right
+  pub left_fits : AllByRecursion (Sized c.inputs c.flops outs) c.left
+  pub right_fits : AllByRecursion (Sized c.inputs c.flops outs) c.right
   pub as_long : length c.left ≡ length c.right
   pub pins_fit : length c.pins ≤ c.flops
   pub short : length c.left ≤ most
-  pub left_bounded : All Bounded c.left
-  pub right_bounded : All Bounded c.right
+  pub left_bounded : AllByRecursion Bounded c.left
+  pub right_bounded : AllByRecursion Bounded c.right
 
-all_row : (P : Net → Type 0) (x y : Net) → P x → P y → (n k : ℕ) → All P (row n x k y)
+all_row : (P : Net → Type 0) (x y : Net) → P x → P y → (n k : ℕ) → AllByRecursion P (row n x k y)
 all_row P x y px py n k = All-append P (replicate n x) (replicate k y) (all_replicate P n x px) (all_replicate P k y py)
 
 length_row : (x y : Net) (n k : ℕ) → length (row n x k y) ≡ n + k
@@ -109,7 +109,7 @@ module _ (a b : Net) (ba : Bounded a) (bb : Bounded b) (fb : Sized a.counts.inpu
     right_bounded = all_replicate Bounded n a ba;
   }
 
-  pub fit : (rule : Rule) (n k : ℕ) → DeepEnough rule n k → All (Fit I L O (n + k)) (comparisons a b rule n k)
+  pub fit : (rule : Rule) (n k : ℕ) → DeepEnough rule n k → AllByRecursion (Fit I L O (n + k)) (comparisons a b rule n k)
   fit Everywhere n k deep = (row_fits [] (omega arith) b a a fb fa fa bb ba ba n k (n + k) (n + k) refl (omega arith), tt)
   fit AfterOriginal n k deep = (row_fits [] (omega arith) a b a fa fb fa ba bb ba n k (n + k) (n + k) refl (omega arith), tt)
   fit FromPins n k deep =
@@ -122,30 +122,30 @@ abbrev EqualTotal : Comparison → Type 0
 EqualTotal c = Equal (FitsPins c.pins) (map machine c.left) (map machine c.right)
 
 module _ (inputs flops outs most : ℕ) where
-  totals : (cs : List Comparison) → All (Fit inputs flops outs most) cs → All EqualRows cs → All EqualTotal cs
+  totals : (cs : List Comparison) → AllByRecursion (Fit inputs flops outs most) cs → AllByRecursion EqualRows cs → AllByRecursion EqualTotal cs
   totals [] f e = tt
   totals (c ∷ cs) (f, fs) (e, es) =
       ((lengths_agree c.inputs c.flops outs c.pins c.left c.right f.left_fits f.right_fits f.as_long f.pins_fit).1 e, totals cs fs es)
 
-  decided : (cs : List Comparison) → All (Fit inputs flops outs most) cs → All ClausesDecide cs
+  decided : (cs : List Comparison) → AllByRecursion (Fit inputs flops outs most) cs → AllByRecursion ClausesDecide cs
   decided [] f = tt
   decided (c ∷ cs) (f, fs) =
       (clauses_sound c.inputs c.flops outs c.pins c.left c.right f.left_fits f.right_fits f.as_long f.pins_fit, decided cs fs)
 
-  all_placed : (cs : List Comparison) → All (Fit inputs flops outs most) cs
-      → All (λ (c : Comparison). Placed c.inputs c.flops outs (pin_literals c.pins 2) c.left c.right) cs
+  all_placed : (cs : List Comparison) → AllByRecursion (Fit inputs flops outs most) cs
+      → AllByRecursion (λ (c : Comparison). Placed c.inputs c.flops outs (pin_literals c.pins 2) c.left c.right) cs
   all_placed [] f = tt
   all_placed (c ∷ cs) (f, fs) = (
     placed c.inputs c.flops outs (pin_literals c.pins 2) c.left c.right f.left_fits f.right_fits f.as_long f.left_bounded f.right_bounded,
     all_placed cs fs,
   )
 
-  gates_few : (row : List Net) → All Bounded row → All (λ net. length net.operands ≤ 8192) row
+  gates_few : (row : List Net) → AllByRecursion Bounded row → AllByRecursion (λ net. length net.operands ≤ 8192) row
   gates_few [] b = tt
   gates_few (net ∷ row) (b, bs) = (omega (arith, b.operands_are, b.counts_in.few_gates), gates_few row bs)
 
-  pub few : inputs ≤ 256 → flops ≤ 256 → outs ≤ 256 → most ≤ 8 → (cs : List Comparison) → All (Fit inputs flops outs most) cs
-      → All (λ (c : Comparison). (formula c).variables ≤ 135681) cs
+  pub few : inputs ≤ 256 → flops ≤ 256 → outs ≤ 256 → most ≤ 8 → (cs : List Comparison) → AllByRecursion (Fit inputs flops outs most) cs
+      → AllByRecursion (λ (c : Comparison). (formula c).variables ≤ 135681) cs
   few i f o m [] fits = tt
   few i f o m (c ∷ cs) (ft, fits) = (
     few_variables c.inputs c.flops outs (pin_literals c.pins 2) c.left c.right ft.left_fits ft.right_fits ft.as_long
@@ -182,7 +182,7 @@ module _ (a b : Net) where
       → spec.Reached Start Input m n s → spec.Reached Any Any m n s
   any_reached m Start Input n s (x, (p, (ws, (l, i, e)))) = (x, (tt, (ws, (l, all_any ws, e))))
 
-  true_verdict : (rule : Rule) (n k : ℕ) → DeepEnough rule n k → All EqualTotal (comparisons a b rule n k) → Verdict a b rule n k
+  true_verdict : (rule : Rule) (n k : ℕ) → DeepEnough rule n k → AllByRecursion EqualTotal (comparisons a b rule n k) → Verdict a b rule n k
   true_verdict Everywhere n k deep (e, x) s p = (rules (machine a) (machine b) Any).rule_1 n k deep (against b a a n k (n + k) refl e) s
   true_verdict AfterOriginal n k deep (e, x) s p =
       (rules (machine a) (machine b) Any).rule_2 n k deep (against a b a n k (n + k) refl e) s

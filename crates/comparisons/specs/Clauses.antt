@@ -1,6 +1,6 @@
 -- The given clauses of a comparison: they can all hold exactly where its two rows differ.
 use Rattle.std.specs.Prelude.{◌≡◌, ℕ, zero, suc, ◌+◌, ◌-◌, ◌*◌, ◌/◌, ◌%◌, Bool, true, false, not, ◌||◌, List, [], ◌∷◌, ◌++◌, map, length, slice_index_or}
-use Rattle.std.specs.List.{AllByRecursion as All}
+use Rattle.std.specs.List.{AllByRecursion}
 use Rattle.circuits.specs.Net.{Net, turned, pick, before}
 use Rattle.comparisons.specs.Table.{Comparison}
 
@@ -17,7 +17,7 @@ holds_in v [] = false
 holds_in v (l ∷ clause) = holds v l || holds_in v clause
 
 abbrev pub Satisfies : (ℕ → Bool) → List (List ℕ) → Type 0
-Satisfies v clauses = All (λ c. holds_in v c ≡ true) clauses
+Satisfies v clauses = AllByRecursion (λ c. holds_in v c ≡ true) clauses
 
 -- no valuation satisfies them
 abbrev pub Refutable : List (List ℕ) → Type 0

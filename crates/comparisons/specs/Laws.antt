@@ -1,6 +1,6 @@
 -- What holds of the comparisons of two circuits that a rule can compare.
 use Rattle.std.specs.Prelude.{◌≡◌, ℕ, ◌≤◌, ◌↔◌, List, Some, None, Option}
-use Rattle.std.specs.List.{AllByRecursion as All}
+use Rattle.std.specs.List.{AllByRecursion}
 use Rattle.circuits.specs.Checks.{first_due}
 use Rattle.circuits.specs.Net.{Net}
 use Rattle.comparisons.specs.declared.fault.OpenFault.{OpenFault}
@@ -23,14 +23,14 @@ pub record Comparable (rule : Rule) (n k : ℕ) (a b : Net) : Type 0 where
 pub record Compares (rule : Rule) (n k : ℕ) (a b : Net) : Type 0 where
   -- where all comparisons are equal, the verdict is true
   pub sound : AllEqual a b rule n k → Verdict a b rule n k
-  pub clauses_decide : All ClausesDecide (comparisons a b rule n k)
+  pub clauses_decide : AllByRecursion ClausesDecide (comparisons a b rule n k)
   -- each clause has its number, each net and each bit its variable
-  pub placed : All (λ c. Placed c.inputs c.flops a.counts.outputs (pin_literals c.pins 2) c.left c.right) (comparisons a b rule n k)
+  pub placed : AllByRecursion (λ c. Placed c.inputs c.flops a.counts.outputs (pin_literals c.pins 2) c.left c.right) (comparisons a b rule n k)
   pub nets_named : (net : Net) (s w : List ℕ) (z : ℕ) → NetsNamed net s w z
   pub bits_named : BitsNamed a.counts.inputs a.counts.flops
   pub pins_placed : PinsPlaced a.pins
   -- no bounded circuits bring on more variables
-  pub few_variables : All (λ c. (formula c).variables ≤ 135681) (comparisons a b rule n k)
+  pub few_variables : AllByRecursion (λ c. (formula c).variables ≤ 135681) (comparisons a b rule n k)
 
 -- No check is due exactly where there is a rule of this number that can compare the circuits. The last check is never told.
 pub record OpensComparable (rule n k : ℕ) (a b : Net) : Type 0 where

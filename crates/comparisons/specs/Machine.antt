@@ -1,6 +1,6 @@
 -- Machines that run cycle by cycle, rows of them, and what it means that two cannot be told apart.
 use Rattle.std.specs.Prelude.{◌≡◌, ℕ, zero, suc, Bool, true, false, List, [], ◌∷◌, length, replicate, slice_index_or}
-use Rattle.std.specs.List.{AllByRecursion as All}
+use Rattle.std.specs.List.{AllByRecursion}
 use Rattle.circuits.specs.Net.{Net, cycle_outs, cycle_nexts}
 
 -- what a machine puts out in a cycle, and its state after it
@@ -23,13 +23,13 @@ module _ {S W Y : Type 0} where
   -- two rows are equal: from each start state that is allowed, on as many allowed inputs as there are cycles, all outputs and the final
   -- states agree
   abbrev pub Equal : (S → Type 0) → (W → Type 0) → List (Machine S W Y) → List (Machine S W Y) → Type 0
-  Equal Start Input left right = (s : S) → Start s → (ws : List W) → length ws ≡ length left → All Input ws
+  Equal Start Input left right = (s : S) → Start s → (ws : List W) → length ws ≡ length left → AllByRecursion Input ws
       → (outputs left s ws ≡ outputs right s ws) × (final left s ws ≡ final right s ws)
 
   -- the machine comes to x in exactly n cycles from some state that is allowed, on n allowed inputs
   abbrev pub Reached : (S → Type 0) → (W → Type 0) → Machine S W Y → ℕ → S → Type 0
   Reached Start Input m n x =
-      (s : S) × (Start s × ((ws : List W) × ((length ws ≡ n) × All Input ws × (final (replicate n m) s ws ≡ x))))
+      (s : S) × (Start s × ((ws : List W) × ((length ws ≡ n) × AllByRecursion Input ws × (final (replicate n m) s ws ≡ x))))
 
   -- the output in cycle t of a machine that runs for ever, on one input for each cycle
   abbrev pub output_at : Machine S W Y → S → (ℕ → W) → ℕ → Y

@@ -1,6 +1,6 @@
 -- The table of the four rules: which rows are compared, at which depths, and of which start states the verdict speaks.
 use Rattle.std.specs.Prelude.{◌≡◌, ℕ, ◌+◌, ◌-◌, ◌≤◌, Bool, List, [], ◌∷◌, ◌++◌, map, replicate}
-use Rattle.std.specs.List.{AllByRecursion as All}
+use Rattle.std.specs.List.{AllByRecursion}
 use Rattle.circuits.specs.Net.{Net}
 use Rattle.comparisons.specs.declared.rule.Rule.{Rule}
 use Rattle.comparisons.specs.declared.rule.Rule.TheVariants.{Everywhere, AfterOriginal, FromPins, AfterGated}
@@ -49,7 +49,7 @@ module _ (a b : Net) where
   Verdict rule n k = (s : List Bool) → VerdictStarts rule n k s → Forever (machine a) (machine b) s
 
   abbrev pub AllEqual : Rule → ℕ → ℕ → Type 0
-  AllEqual rule n k = All EqualRows (comparisons rule n k)
+  AllEqual rule n k = AllByRecursion EqualRows (comparisons rule n k)
 
 -- the least depths of each rule
 abbrev pub DeepEnough : Rule → ℕ → ℕ → Type 0

@@ -1,6 +1,6 @@
 -- What the checks of dummies say, and what passes them.
 use Rattle.std.proofs.Common.{◌≡◌, ℕ, ◌+◌, ◌-◌, ◌<◌, ◌≤◌, min, false, ◌⊎◌, List, [], ◌∷◌, length, get_or, IfOk, Some, None, Ok, Err, Result, sym, ap, ◌∙◌, inl, inr, arith}
-use Rattle.std.specs.List.{AllByRecursion as All}
+use Rattle.std.specs.List.{AllByRecursion}
 use Rattle.std.proofs.lemmas.Bool.{ltb-false, le-ltb}
 use Rattle.circuits.specs.declared.counts.Counts.{Counts}
 use Rattle.circuits.specs.declared.circuit.Gate.{Gate}
@@ -20,16 +20,16 @@ use Rattle.layers.specs.Padding.{each_checked, pad_checks, padding, PadsFitting}
 use Rattle.layers.specs.PaddedAnswers.{GateRaised, OutRaised, Found}
 
 abbrev Passed : List (Check PadFault) → Type 0
-Passed = All (λ c. c.1 ≡ false)
+Passed = AllByRecursion (λ c. c.1 ≡ false)
 
 abbrev Fits : Counts → Dummy → Type 0
 Fits c d = (d.next ≤ top c) × (d.pin ≤ 2)
 
-each_fits : (c : Counts) (k : ℕ) (ds : List Dummy) → Passed (each_checked c k ds) → All (Fits c) ds
+each_fits : (c : Counts) (k : ℕ) (ds : List Dummy) → Passed (each_checked c k ds) → AllByRecursion (Fits c) ds
 each_fits c k [] a = tt
 each_fits c k (d ∷ ds) a = ((ltb-false (top c) d.next a.0, ltb-false 2 d.pin a.1.0), each_fits c (k + 1) ds a.1.1)
 
-each_passes : (c : Counts) (k : ℕ) (ds : List Dummy) → All (Fits c) ds → Passed (each_checked c k ds)
+each_passes : (c : Counts) (k : ℕ) (ds : List Dummy) → AllByRecursion (Fits c) ds → Passed (each_checked c k ds)
 each_passes c k [] a = tt
 each_passes c k (d ∷ ds) a = (le-ltb (top c) d.next a.0.0, (le-ltb 2 d.pin a.0.1, each_passes c (k + 1) ds a.1))
 
