@@ -1,9 +1,8 @@
 -- The gates of a row, counted by cycle.
-use Rattle.std.proofs.Common.{◌≡◌, ℕ, zero, suc, ◌+◌, ◌-◌, ◌*◌, ◌/◌, ◌%◌, ◌<◌, ◌≤◌, cond, ltb, leb, sym, refl, ap, ◌∙◌, subst, ⊎_elim, add-mul, mul-le-mul, mul-le-mul_left, mul-zero, arith}
+use Rattle.std.proofs.Common.{◌≡◌, ℕ, zero, suc, ◌+◌, ◌-◌, ◌*◌, ◌/◌, ◌%◌, ◌<◌, ◌≤◌, ltb, leb, sym, ap, ◌∙◌, subst, ⊎_elim, mul-le-mul_left, mul-zero, arith}
 use Rattle.std.proofs.lemmas.Nat.{div-add-mod', div_below, mod_below}
 use Rattle.std.proofs.lemmas.Bool.{cases_lt, cond-true, cond-false, le-leb, lt-leb, lt-ltb, le-ltb}
 use Rattle.clauses.specs.declared.shape.Span.{Span}
-use Rattle.clauses.specs.declared.shape.Spot.{Spot}
 use Rattle.clauses.specs.Shapes.{Short, gates_before, gates_in, Spots}
 
 -- below a product, the factor is not zero

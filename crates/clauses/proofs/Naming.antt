@@ -1,25 +1,23 @@
 -- What a literal of a cycle is among the literals of the clauses.
-use Rattle.std.proofs.Common.{◌≡◌, ℕ, zero, suc, ◌+◌, ◌-◌, ◌*◌, ◌/◌, ◌%◌, ◌<◌, ◌≤◌, Bool, true, false, cond, ◌&&◌, eqb, ltb, leb, ◌⊎◌, List, [], ◌∷◌, length, get_or, take, Some, None, Option, sym, refl, ap, ◌∙◌, subst, ap₂, inl, inr, ⊎_elim, arith}
-use Rattle.std.proofs.lemmas.Bool.{cases_lt, cases_Bool, and_parts, and_from, ltb-true, leb-true, lt-ltb, le-leb, lt-leb, eq-eqb, ne_eqb, both_ways}
+use Rattle.std.proofs.Common.{◌≡◌, ℕ, zero, suc, ◌+◌, ◌-◌, ◌*◌, ◌/◌, ◌%◌, ◌<◌, ◌≤◌, Bool, true, false, cond, ◌&&◌, eqb, ltb, leb, ◌⊎◌, List, [], length, get_or, take, Some, None, Option, sym, refl, ap, ◌∙◌, subst, ap₂, inl, inr, ⊎_elim, arith}
+use Rattle.std.proofs.lemmas.Bool.{cases_lt, and_parts, and_from, ltb-true, leb-true, lt-ltb, le-leb, lt-leb, eq-eqb, ne_eqb, both_ways}
 use Rattle.circuits.specs.declared.circuit.Gate.{Gate}
-use Rattle.circuits.specs.Net.{Net, Bounded, top, gate_at, next_at, out_at, turned}
+use Rattle.circuits.specs.Net.{Net, Bounded, gate_at, next_at, out_at, turned}
 use Rattle.circuits.proofs.Lookups.{gate_low, next_low, out_low}
-use Rattle.comparisons.specs.Clauses.{negated, off, named, names, gate_count, start, input}
+use Rattle.comparisons.specs.Clauses.{negated, off, named, gate_count, start, input}
 use Rattle.comparisons.specs.Opening.{same_sizes}
-use Rattle.comparisons.specs.Places.{net_at, flops_at, cycle_at, RowPlaced}
+use Rattle.comparisons.specs.Places.{flops_at, cycle_at}
 use Rattle.comparisons.proofs.Numbered.{nets_named, bits_named}
 use Rattle.clauses.specs.declared.plan.Side.{Side}
 use Rattle.clauses.specs.declared.plan.Side.TheVariants.{Original, Gated}
 use Rattle.clauses.specs.declared.plan.Half.{Half}
 use Rattle.clauses.specs.declared.plan.Half.TheVariants.{Left, Right}
-use Rattle.clauses.specs.declared.plan.Row.{Row}
 use Rattle.clauses.specs.declared.plan.Plan.{Plan}
-use Rattle.clauses.specs.declared.shape.Span.{Span}
 use Rattle.clauses.specs.declared.shape.Spot.{Spot}
 use Rattle.clauses.specs.declared.shape.Shape.{Shape}
-use Rattle.clauses.specs.Plans.{side_at, side_in, on, row_of, left_of, right_of, half_of, in_time}
+use Rattle.clauses.specs.Plans.{side_at, side_in, on, left_of, right_of, half_of, in_time}
 use Rattle.clauses.specs.Shapes.{Small, gates_before, span, gates_ahead, gate_variable, own_variable, own_literal, flop_of}
-use Rattle.clauses.specs.Asked.{span_of, shape_of, Sizes, runs, OfCycle, RanGate, RanNext, RanOut, first_of, names_in}
+use Rattle.clauses.specs.Asked.{shape_of, Sizes, runs, OfCycle, RanGate, RanNext, RanOut, first_of, names_in}
 use Rattle.clauses.proofs.Rows.{Timely, timely, shape_is, small, length_row, count_before, count_row, runs_is, on_bounded, rows_placed}
 
 -- inversion

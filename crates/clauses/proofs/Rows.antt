@@ -1,14 +1,12 @@
 -- The rows of a plan: their circuits, and how many gates these have.
-use Rattle.std.proofs.Common.{◌≡◌, ℕ, zero, suc, ◌+◌, ◌-◌, ◌*◌, ◌<◌, ◌≤◌, Bool, true, false, cond, ◌&&◌, eqb, ltb, leb, List, [], ◌∷◌, ◌++◌, length, get_or, take, replicate, Some, None, Option, sym, refl, ap, ◌∙◌, subst, ap₂, ⊎_elim, arith, length-append}
+use Rattle.std.proofs.Common.{◌≡◌, ℕ, zero, suc, ◌+◌, ◌-◌, ◌*◌, ◌<◌, ◌≤◌, Bool, true, false, cond, ◌&&◌, eqb, ltb, leb, List, [], ◌∷◌, ◌++◌, length, take, replicate, Some, None, Option, sym, refl, ap, ◌∙◌, ap₂, ⊎_elim, arith, length-append}
 use lib.ListN.{length-replicate}
 use Rattle.std.specs.List.{AllByRecursion}
 use Rattle.std.proofs.ByRecursion.{All-append}
 use Rattle.std.proofs.lemmas.List.{get_or_append_left, get_or-append_right, get_or-replicate, take-replicate}
-use Rattle.std.proofs.lemmas.Bool.{cases_Bool, cases_lt, and_parts, eqb-true, leb-true, cond-true, cond-false, lt-ltb, le-ltb, false≢true}
-use Rattle.circuits.specs.declared.counts.Counts.{Counts}
+use Rattle.std.proofs.lemmas.Bool.{cases_lt, and_parts, eqb-true, leb-true, cond-true, cond-false, lt-ltb, le-ltb}
 use Rattle.circuits.specs.Held.{blank}
 use Rattle.circuits.specs.Net.{Net, Bounded}
-use Rattle.comparisons.specs.Table.{row}
 use Rattle.comparisons.specs.Clauses.{gate_count}
 use Rattle.comparisons.specs.Places.{net_at, Placed}
 use Rattle.comparisons.specs.Opening.{same_sizes}
@@ -16,14 +14,12 @@ use Rattle.comparisons.proofs.Sized.{Sized}
 use Rattle.comparisons.proofs.Numbered.{placed}
 use Rattle.clauses.specs.declared.plan.Side.{Side}
 use Rattle.clauses.specs.declared.plan.Side.TheVariants.{Original, Gated}
-use Rattle.clauses.specs.declared.plan.Half.{Half}
-use Rattle.clauses.specs.declared.plan.Half.TheVariants.{Left, Right}
 use Rattle.clauses.specs.declared.plan.Row.{Row}
 use Rattle.clauses.specs.declared.plan.Plan.{Plan}
 use Rattle.clauses.specs.declared.shape.Shape.{Shape}
-use Rattle.clauses.specs.Plans.{other_side, side_at, on, row_of, left_of, right_of, half_of, in_time}
+use Rattle.clauses.specs.Plans.{other_side, side_at, on, row_of, left_of, right_of, in_time}
 use Rattle.clauses.specs.Shapes.{Short, Small, gates_before}
-use Rattle.clauses.specs.Asked.{gates_on, span_of, shape_of, shaped, Sizes}
+use Rattle.clauses.specs.Asked.{gates_on, span_of, shape_of}
 use Rattle.clauses.proofs.Gates.{before_front, before_back}
 
 -- a row by one circuit and then by another

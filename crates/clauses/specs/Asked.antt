@@ -1,5 +1,5 @@
 -- The clauses of a plan, as code answers them: by what a clause is about.
-use Rattle.std.specs.Prelude.{◌≡◌, ℕ, zero, suc, ◌+◌, ◌-◌, ◌*◌, ◌<◌, ◌≤◌, Bool, true, cond, ◌&&◌, List, [], ◌∷◌, length, Some, None, Option, slice_index}
+use Rattle.std.specs.Prelude.{◌≡◌, ℕ, zero, suc, ◌+◌, ◌-◌, ◌*◌, ◌≤◌, cond, ◌&&◌, List, [], ◌∷◌, Some, None, Option, slice_index}
 use Rattle.circuits.specs.declared.circuit.Gate.{Gate as GateWords}
 use Rattle.circuits.specs.declared.counts.Counts.{Counts}
 use Rattle.circuits.specs.Net.{Net, Bounded, top, gate_at, next_at, out_at}
@@ -17,7 +17,7 @@ use Rattle.clauses.specs.declared.shape.Spot.{Spot}
 use Rattle.clauses.specs.declared.shape.Shape.{Shape}
 use Rattle.clauses.specs.declared.shape.Place.{Place}
 use Rattle.clauses.specs.declared.shape.Place.TheVariants.{Nowhere, Constant, Gate, Output, Final, Differences, Fixed}
-use Rattle.clauses.specs.Plans.{other_side, left_of, right_of, half_of, in_time}
+use Rattle.clauses.specs.Plans.{other_side, left_of, half_of, in_time}
 use Rattle.clauses.specs.Shapes.{gate_variable, difference_variable, all_differences}
 
 -- the gates of the circuit of a side, of the two numbers of gates

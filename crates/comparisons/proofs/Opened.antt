@@ -8,7 +8,7 @@ use Rattle.circuits.proofs.Checking.{all_passed, none_due}
 use Rattle.comparisons.specs.declared.fault.OpenFault.TheVariants.{SizesDiffer, OutsideTable, PinsDiffer, ManyVariables}
 use Rattle.comparisons.specs.declared.rule.Rule.{Rule}
 use Rattle.comparisons.specs.declared.rule.Rule.TheVariants.{Everywhere, AfterOriginal, FromPins, AfterGated}
-use Rattle.comparisons.specs.Table.{Comparison, comparisons, DeepEnough, InTable, Alike}
+use Rattle.comparisons.specs.Table.{Comparison, comparisons, DeepEnough, InTable}
 use Rattle.comparisons.specs.Clauses.{formula}
 use Rattle.comparisons.specs.Opening.{rule_of, same_sizes, deep_enough, in_table, uses_pins, same_list, formulas, few_variables, open_checks}
 use Rattle.comparisons.specs.Laws.{Comparable, OpensComparable}

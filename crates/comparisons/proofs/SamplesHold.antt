@@ -1,10 +1,8 @@
 -- What holds of the small circuits is mostly computed.
 use Rattle.std.proofs.Common.{◌≡◌, ℕ, zero, suc, ◌<◌, ◌≤◌, Bool, true, false, not, ◌&&◌, List, [], ◌∷◌, length, get_or, sym, refl, ap, arith}
 use Rattle.std.proofs.lemmas.Bool.{false≢true}
-use Rattle.circuits.specs.Net.{Net, Bounded, BoundedCounts, gate_at, gate_literal}
-use Rattle.comparisons.specs.declared.rule.Rule.TheVariants.{Everywhere, FromPins}
+use Rattle.circuits.specs.Net.{Net, Bounded, gate_at, gate_literal}
 use Rattle.comparisons.specs.Machine.{outputs, final, machine}
-use Rattle.comparisons.specs.Laws.{Comparable}
 use Rattle.comparisons.specs.Samples.{Samples, delay, pair, gated_pair, counter, silent, at_two}
 
 -- an enable that holds the old value matters only where the old value is put out

@@ -3,7 +3,7 @@ use Rattle.std.proofs.Common.{◌≡◌, ℕ, zero, suc, ◌+◌, ◌*◌, ◌�
 use Rattle.std.specs.List.{AllByRecursion}
 use Rattle.std.proofs.lemmas.List.{length-map}
 use Rattle.circuits.specs.Net.{Net, before}
-use Rattle.comparisons.specs.Clauses.{off, named, names, next_names, vars, gate_clauses, row_clauses, row_results, gate_count, difference_clauses, pin_literals, start, input, left_gates, right_gates, given_clauses, last_variable}
+use Rattle.comparisons.specs.Clauses.{off, named, names, next_names, vars, gate_clauses, row_clauses, row_results, gate_count, difference_clauses, pin_literals, start, input, left_gates, given_clauses, last_variable}
 use Rattle.comparisons.proofs.Sequences.{rest}
 use Rattle.comparisons.proofs.Sized.{Sized}
 use Rattle.comparisons.proofs.Satisfied.{length_vars}

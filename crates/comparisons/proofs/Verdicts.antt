@@ -9,7 +9,7 @@ use Rattle.comparisons.specs.declared.rule.Rule.{Rule}
 use Rattle.comparisons.specs.declared.rule.Rule.TheVariants.{Everywhere, AfterOriginal, FromPins, AfterGated}
 use Rattle.comparisons.specs.Machine as spec
 use Rattle.comparisons.specs.Machine.{Machine, Any, Forever, machine, Bits, FitsPins}
-use Rattle.comparisons.specs.Table.{Comparison, row, comparisons, DeepEnough, InTable, Alike, VerdictStarts, Verdict, EqualRows, AllEqual}
+use Rattle.comparisons.specs.Table.{Comparison, row, comparisons, DeepEnough, Alike, Verdict, EqualRows}
 use Rattle.comparisons.specs.Clauses.{pin_literals, formula}
 use Rattle.comparisons.specs.Places.{Placed}
 use Rattle.comparisons.specs.Laws.{ClausesDecide, Comparable, Compares}

@@ -1,9 +1,8 @@
 -- What holds of the comparisons of two circuits that a rule can compare.
-use Rattle.std.specs.Prelude.{◌≡◌, ℕ, ◌≤◌, ◌↔◌, List, Some, None, Option}
+use Rattle.std.specs.Prelude.{◌≡◌, ℕ, ◌≤◌, ◌↔◌, List, Some, None}
 use Rattle.std.specs.List.{AllByRecursion}
 use Rattle.circuits.specs.Checks.{first_due}
 use Rattle.circuits.specs.Net.{Net}
-use Rattle.comparisons.specs.declared.fault.OpenFault.{OpenFault}
 use Rattle.comparisons.specs.declared.fault.OpenFault.TheVariants.{ManyVariables}
 use Rattle.comparisons.specs.declared.rule.Rule.{Rule}
 use Rattle.comparisons.specs.Table.{Comparison, EqualRows, comparisons, Verdict, AllEqual, InTable, Alike}

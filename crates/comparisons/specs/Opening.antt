@@ -1,13 +1,13 @@
 -- What opening a case answers, and what its checks decide.
-use Rattle.std.specs.Prelude.{◌≡◌, ℕ, zero, suc, ◌+◌, ◌≤◌, Bool, true, false, not, ◌&&◌, ◌↔◌, List, [], ◌∷◌, map, Some, None, Option, Result, ◌==◌, nat_le}
+use Rattle.std.specs.Prelude.{ℕ, zero, suc, ◌+◌, Bool, true, false, not, ◌&&◌, List, [], ◌∷◌, map, Some, None, Option, Result, ◌==◌, nat_le}
 use Rattle.circuits.specs.declared.counts.Counts.{Counts}
-use Rattle.circuits.specs.Checks.{Check, first_due, unless_due}
-use Rattle.circuits.specs.Net.{Net, Bounded}
+use Rattle.circuits.specs.Checks.{Check, unless_due}
+use Rattle.circuits.specs.Net.{Net}
 use Rattle.comparisons.specs.declared.fault.OpenFault.{OpenFault}
 use Rattle.comparisons.specs.declared.fault.OpenFault.TheVariants.{SizesDiffer, OutsideTable, PinsDiffer, ManyVariables}
 use Rattle.comparisons.specs.declared.rule.Rule.{Rule}
 use Rattle.comparisons.specs.declared.rule.Rule.TheVariants.{Everywhere, AfterOriginal, FromPins, AfterGated}
-use Rattle.comparisons.specs.Table.{comparisons, InTable, Alike}
+use Rattle.comparisons.specs.Table.{comparisons}
 use Rattle.comparisons.specs.Clauses.{Formula, formula}
 
 -- the rule of a number

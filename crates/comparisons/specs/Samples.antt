@@ -6,7 +6,7 @@ use Rattle.comparisons.specs.declared.rule.Rule.{Rule}
 use Rattle.comparisons.specs.declared.rule.Rule.TheVariants.{Everywhere, FromPins}
 use Rattle.comparisons.specs.Machine.{output_at, outputs, final, machine}
 use Rattle.comparisons.specs.Table.{Comparison, from_all, comparisons, EqualRows, AllEqual}
-use Rattle.comparisons.specs.Clauses.{Formula, formula}
+use Rattle.comparisons.specs.Clauses.{formula}
 use Rattle.comparisons.specs.Laws.{Comparable}
 
 abbrev counted : ℕ → ℕ → ℕ → ℕ → Counts

@@ -1,4 +1,4 @@
-use Rattle.std.proofs.Common.{◌-◌, sym, refl, ◌∙◌, arith}
+use Rattle.std.proofs.Common.{◌-◌, sym, ◌∙◌, arith}
 use Rattle.clauses.proofs.Naming.{sizes_small, literal_low, own_without_flop, own_at_start, step_down}
 use Rattle.clauses.proofs.comparison.Comparison.named.Goals as goal
 
