@@ -5,10 +5,10 @@ mod folder;
 mod report;
 mod summary;
 
-use anyhow::anyhow;
 use folder::{folder_named, read_file};
 use report::Report;
 use std::path::Path;
+use std::process::ExitCode;
 
 fn run(rt: &HostRuntime) -> anyhow::Result<Report> {
     let name = folder_named(rt)?;
@@ -21,13 +21,13 @@ fn run(rt: &HostRuntime) -> anyhow::Result<Report> {
 }
 
 // Status 0 where both netlists are read, else 1; what kept the checker from a report goes to standard error.
-fn main(rt: HostRuntime) -> anyhow::Result<()> {
+fn main(rt: HostRuntime) -> anyhow::Result<ExitCode> {
     match run(&rt) {
-        Ok(report) if report.both_read() => Ok(()),
-        Ok(_) => Err(anyhow!("refused")),
+        Ok(report) if report.both_read() => Ok(ExitCode::SUCCESS),
+        Ok(_) => Ok(ExitCode::FAILURE),
         Err(e) => {
             eprintln!(rt; "checker: {e}")?;
-            Err(e)
+            Ok(ExitCode::FAILURE)
         }
     }
 }

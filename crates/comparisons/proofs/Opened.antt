@@ -128,7 +128,7 @@ module _ (n k : ℕ) (a b : Net) (ba : Bounded a) (bb : Bounded b) where
 pub opens_comparable : (rule n k : ℕ) (a b : Net) → Bounded a → Bounded b → OpensComparable rule n k a b
 opens_comparable rule n k a b ba bb = record {
   decides = (
-    λ e. let (p10, (p11, (p12, (p13, over)))) = all_passed (open_checks a b (rule_of rule) n k) e in comparable n k a b ba bb (rule_of rule) p10 p11 p12,
+    λ e. let (sized, (tabled, (pinned, (few, over)))) = all_passed (open_checks a b (rule_of rule) n k) e in comparable n k a b ba bb (rule_of rule) sized tabled pinned,
     λ h. let (r, (is, can)) = h in none n k a b ba bb (rule_of rule) r is can,
   );
   few_enough = never_last n k a b ba bb (rule_of rule);
