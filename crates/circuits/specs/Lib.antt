@@ -5,3 +5,4 @@ pub mod Held
 pub mod Renumbered
 pub mod Padded
 pub mod Matched
+pub mod Pins

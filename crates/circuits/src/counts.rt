@@ -18,7 +18,7 @@ pub const MOST_OUTPUTS: u32 = 256;
 pub const MOST_WORDS: usize = 17_152;
 
 // How many inputs, flops, gates and outputs a circuit has.
-#[derive(Clone, Copy)]
+#[derive(Clone, Copy, Debug, PartialEq, Eq)]
 pub struct Counts {
     pub inputs: u32,
     pub flops: u32,

@@ -4,3 +4,5 @@
 pub mod circuit;
 pub mod counts;
 pub mod dummy;
+pub mod numbered;
+pub mod pin;
