@@ -1,48 +1,40 @@
--- What a wired circuit has at each place, whatever the order and the places are.
-use Rattle.std.proofs.Common.{◌≡◌, ℕ, ◌-◌, ◌<◌, ◌≤◌, min, List, map, get_or, ap, ◌∙◌, ap₂, inl, arith}
-use Rattle.std.proofs.lemmas.List.FromFn.{length-map-range_with_len, get_or-map-range_with_len}
+-- What a matched circuit has at each place.
+use Rattle.std.proofs.Common.{◌≡◌, ℕ, ◌<◌, ◌≤◌, List, map, get_or, sym, ap, ◌∙◌, ap₂, inl, arith}
 use Rattle.std.proofs.lemmas.List.{length-map, get_or-map, get_or_past}
-use Rattle.circuits.specs.Net.{Net, gate_at, next_at, pin_at, out_at, first}
+use Rattle.circuits.specs.Net.{Net, Bounded, gate_at, next_at, pin_at, out_at}
 use Rattle.circuits.specs.Renumbered.{renumbered, both_renumbered}
-use Rattle.circuits.specs.Matched.{wired, rewiring}
+use Rattle.circuits.specs.Matched.{place, InSomeOrder, flops_moved, matched}
 use Rattle.circuits.proofs.Mapped.{get_or_mapped}
 use Rattle.circuits.proofs.Matchings.{moved_other}
 
--- literal 0 stays
-pub zero_kept : (n : Net) (places : List ℕ) → renumbered (rewiring n places) 0 ≡ 0
-zero_kept n places = omega (arith, moved_other n.counts (λ f. min (get_or places f 0) (n.counts.flops - 1)) 0 (inl (omega arith)))
+module _ (n : Net) (p : List ℕ) where
+  abbrev nets : ℕ → ℕ
+  nets = flops_moved n.counts (place p)
 
-module _ (n : Net) (p places : List ℕ) where
-  pub wired_gate : (i : ℕ) → gate_at (wired n p places) i ≡ both_renumbered (rewiring n places) (gate_at n i)
-  wired_gate i =
-      let z = zero_kept n places in
-      get_or_mapped (both_renumbered (rewiring n places)) (0, 0) (0, 0) (ap₂ (λ a b. (a, b)) z z) n.operands i
+  -- literal 0 stays
+  zero_kept : renumbered nets 0 ≡ 0
+  zero_kept = omega (arith, moved_other n.counts (place p) 0 (inl (omega arith)))
 
-  pub wired_out : (j : ℕ) → out_at (wired n p places) j ≡ renumbered (rewiring n places) (out_at n j)
-  wired_out j = get_or_mapped (renumbered (rewiring n places)) 0 0 (zero_kept n places) n.outs j
+  pub matched_gate : (i : ℕ) → gate_at (matched n p) i ≡ both_renumbered (flops_moved n.counts (place p)) (gate_at n i)
+  matched_gate i = get_or_mapped (both_renumbered nets) (0, 0) (0, 0) (ap₂ (λ a b. (a, b)) zero_kept zero_kept) n.operands i
 
-  -- what is made of the order has for flop j what entry j gives, and nothing past the flops
-  module _ {X : Type 0} (make : ℕ → X) (d : X) where
-    made_at : (j : ℕ) → j < n.counts.flops → get_or (map make (first 0 n.counts.flops p)) j d ≡ make (get_or p j 0)
-    made_at j h =
-        let order = first 0 n.counts.flops p in
-        let l = length-map-range_with_len (λ k. get_or p k 0) 0 n.counts.flops in
-        get_or-map make order j 0 d (omega arith) ∙ ap make (get_or-map-range_with_len (λ k. get_or p k 0) 0 n.counts.flops j j 0 h (omega arith))
+  pub matched_out : (j : ℕ) → out_at (matched n p) j ≡ renumbered (flops_moved n.counts (place p)) (out_at n j)
+  matched_out j = get_or_mapped (renumbered nets) 0 0 zero_kept n.outs j
 
-    made_past : (j : ℕ) → n.counts.flops ≤ j → get_or (map make (first 0 n.counts.flops p)) j d ≡ d
-    made_past j h =
-        let order = first 0 n.counts.flops p in
-        let l = length-map-range_with_len (λ k. get_or p k 0) 0 n.counts.flops in
-        get_or_past (map make order) j d (omega (arith, length-map order make))
+  module _ (o : InSomeOrder n.counts.flops p) (j : ℕ) where
+    -- flop j is the flop that stands at j in the order
+    pub matched_next : j < n.counts.flops → next_at (matched n p) j ≡ renumbered (flops_moved n.counts (place p)) (next_at n (get_or p j 0))
+    matched_next h = get_or-map (λ f. renumbered nets (next_at n f)) p j 0 0 (omega (arith, o.0))
 
-  pub wired_next : (j : ℕ) → j < n.counts.flops → next_at (wired n p places) j ≡ renumbered (rewiring n places) (next_at n (get_or p j 0))
-  wired_next = made_at (λ f. renumbered (rewiring n places) (next_at n f)) 0
+    pub matched_pin : j < n.counts.flops → pin_at (matched n p) j ≡ pin_at n (get_or p j 0)
+    matched_pin h = get_or-map (pin_at n) p j 0 2 (omega (arith, o.0))
 
-  pub wired_next_past : (j : ℕ) → n.counts.flops ≤ j → next_at (wired n p places) j ≡ 0
-  wired_next_past = made_past (λ f. renumbered (rewiring n places) (next_at n f)) 0
+    -- past the flops there is nothing, as in the circuit below
+    pub matched_next_past : Bounded n → n.counts.flops ≤ j → next_at (matched n p) j ≡ renumbered (flops_moved n.counts (place p)) (next_at n j)
+    matched_next_past b h =
+        get_or_past (map (λ f. renumbered nets (next_at n f)) p) j 0 (omega (arith, o.0, length-map p (λ f. renumbered nets (next_at n f))))
+        ∙ sym (ap (renumbered nets) (get_or_past n.nexts j 0 (omega (arith, b.nexts_are))) ∙ zero_kept)
 
-  pub wired_pin : (j : ℕ) → j < n.counts.flops → pin_at (wired n p places) j ≡ pin_at n (get_or p j 0)
-  wired_pin = made_at (pin_at n) 2
-
-  pub wired_pin_past : (j : ℕ) → n.counts.flops ≤ j → pin_at (wired n p places) j ≡ 2
-  wired_pin_past = made_past (pin_at n) 2
+    pub matched_pin_past : Bounded n → n.counts.flops ≤ j → pin_at (matched n p) j ≡ pin_at n j
+    matched_pin_past b h =
+        get_or_past (map (pin_at n) p) j 2 (omega (arith, o.0, length-map p (pin_at n))) ∙ sym (get_or_past n.pins j 2 (omega (arith, b.pins_are)))

@@ -1,14 +1,12 @@
 -- Matched circuits: their bounds, what a cycle gives, and the way back.
-use Rattle.std.proofs.Common.{◌≡◌, ℕ, ◌+◌, ◌-◌, ◌*◌, ◌/◌, ◌%◌, ◌<◌, ◌≤◌, min, Bool, false, ltb, ◌⊎◌, List, map, length, get_or, sym, refl, ap, ◌∙◌, subst, ap₂, inl, inr, ⊎_elim, arith}
-use mathlib.Core.Path.{fun_ext}
-use Rattle.std.proofs.lemmas.List.FromFn.{length-map-range_with_len, fill_by_all}
+use Rattle.std.proofs.Common.{◌≡◌, ℕ, ◌+◌, ◌-◌, ◌*◌, ◌/◌, ◌%◌, ◌<◌, ◌≤◌, Bool, false, ltb, ◌⊎◌, List, map, length, get_or, sym, refl, ap, ◌∙◌, subst, ap₂, inl, inr, ⊎_elim, arith}
 use Rattle.std.proofs.ByRecursion.{All-map, All-weaker, All-from_get_or}
 use Rattle.std.proofs.lemmas.List.{length-map, get_or-map, ext_get_or}
 use Rattle.std.proofs.lemmas.Bool.{cases_lt, cond-true, cond-false, and_from, and_left, and_right, lt-ltb, le-ltb, le-leb, lt-leb}
 use Rattle.circuits.specs.declared.counts.Counts.{Counts}
-use Rattle.circuits.specs.Net.{Net, Bounded, top, gate_at, gate_literal, next_at, pin_at, first, before, value, values}
+use Rattle.circuits.specs.Net.{Net, Bounded, top, gate_at, gate_literal, next_at, pin_at, before, value, values}
 use Rattle.circuits.specs.Renumbered.{renumbered, both_renumbered}
-use Rattle.circuits.specs.Matched.{place, InSomeOrder, flops_moved, rewired, matched, inverse, permuted, MatchingLaws, wired}
+use Rattle.circuits.specs.Matched.{place, InSomeOrder, flops_moved, rewired, matched, inverse, permuted, MatchingLaws}
 use Rattle.circuits.proofs.NetsBefore.{length_before, before_ins, before_flop}
 use Rattle.circuits.proofs.Mapped.{map_twice, map_back, get_or_mapped, any_get_or}
 use Rattle.circuits.proofs.Orders.{at_place, names_flops, inverse_in_order, inverse_at, place_inverse}
@@ -48,7 +46,7 @@ module _ (c : Counts) where
     renumbered_below : (b : ℕ) → c.inputs + c.flops < b → (x : ℕ) → x < 2 * b → renumbered (flops_moved c to) x < 2 * b
     renumbered_below b h x l = omega (arith, moved_below b h (x / 2) (omega arith))
 
--- any order and any places within the flops give a bounded circuit
+-- places within the flops give a bounded circuit
 pub rewired_bounded : (n : Net) (p : List ℕ) (to : ℕ → ℕ) → Bounded n → length p ≡ n.counts.flops
     → ((f : ℕ) → f < n.counts.flops → to f < n.counts.flops) → Bounded (rewired n p to)
 rewired_bounded n p to b lp low =
@@ -78,25 +76,6 @@ rewired_bounded n p to b lp low =
 
 pub matched_bounded : (n : Net) (p : List ℕ) → Bounded n → InSomeOrder n.counts.flops p → Bounded (matched n p)
 matched_bounded n p b o = rewired_bounded n p (place p) b o.0 o.1
-
-pub wired_bounded : (n : Net) (p places : List ℕ) → Bounded n → Bounded (wired n p places)
-wired_bounded n p places b =
-    rewired_bounded n (first 0 n.counts.flops p) (λ f. min (get_or places f 0) (n.counts.flops - 1)) b
-    (length-map-range_with_len (λ k. get_or p k 0) 0 n.counts.flops) (λ f h. omega arith)
-
--- with the places of an order, nothing is changed
-pub wired_matched : (n : Net) (p places : List ℕ) → InSomeOrder n.counts.flops p
-    → ((f : ℕ) → f < n.counts.flops → get_or places f 0 ≡ place p f) → wired n p places ≡ matched n p
-wired_matched n p places o same =
-    let c = n.counts in
-    let to : ℕ → ℕ = λ f. min (get_or places f 0) (c.flops - 1) in
-    let order = fill_by_all (λ k. get_or p k 0) p c.flops 0 o.0 (λ k _. refl) in
-    let nets = each_net c (λ v. flops_moved c to v ≡ flops_moved c (place p) v)
-    (λ f h. omega (arith, moved_flop c to f h, moved_flop c (place p) f h, same f h, o.1 f h))
-    (λ v k. moved_other c to v k ∙ sym (moved_other c (place p) v k)) in
-    -- as functions too, for where they are not applied
-    let all : flops_moved c to ≡ flops_moved c (place p) = fun_ext nets in
-    simp (← order, nets, all)
 
 -- a literal renumbered and renumbered back
 renumbered_back : (s t : ℕ → ℕ) → ((v : ℕ) → s (t v) ≡ v) → (x : ℕ) → renumbered s (renumbered t x) ≡ x

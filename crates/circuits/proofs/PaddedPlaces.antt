@@ -1,12 +1,12 @@
 -- What a padded circuit has at each place.
-use Rattle.std.proofs.Common.{◌≡◌, ℕ, ◌+◌, ◌-◌, ◌*◌, ◌<◌, ◌≤◌, min, cond, ◌⊎◌, List, ◌++◌, map, length, get_or, take, sym, ap, ◌∙◌, ap₂, ⊎_elim, arith}
+use Rattle.std.proofs.Common.{◌≡◌, ℕ, ◌+◌, ◌-◌, ◌*◌, ◌<◌, ◌≤◌, cond, ◌⊎◌, List, ◌++◌, map, length, get_or, sym, ap, ◌∙◌, ap₂, ⊎_elim, arith}
 use lib.Dec.{leb-zero}
-use Rattle.std.proofs.lemmas.List.{get_or_append_left, get_or-append_right, get_or-map, get_or_past, get_or-take, length-append, length-map, length-take}
+use Rattle.std.proofs.lemmas.List.{get_or_append_left, get_or-append_right, get_or-map, get_or_past, length-append, length-map}
 use Rattle.circuits.specs.declared.counts.Counts.{Counts}
 use Rattle.circuits.specs.declared.dummy.Dummy.{Dummy}
-use Rattle.circuits.specs.Net.{Net, Bounded, top, gate_at, next_at, pin_at, out_at}
+use Rattle.circuits.specs.Net.{Net, Bounded, gate_at, next_at, pin_at, out_at}
 use Rattle.circuits.specs.Renumbered.{renumbered, both_renumbered}
-use Rattle.circuits.specs.Padded.{moved_up, padded, fitted}
+use Rattle.circuits.specs.Padded.{moved_up, padded}
 use Rattle.circuits.proofs.Mapped.{get_or_mapped}
 
 renumbered_zero : (c : Counts) (d : ℕ) → renumbered (moved_up c d) 0 ≡ 0
@@ -70,16 +70,3 @@ module _ (n : Net) (ds : List Dummy) where
   pub padded_pin_other : (j : ℕ) → Bounded n → (j < n.counts.flops) ⊎ (n.counts.flops + length ds ≤ j) → pin_at (padded n ds) j ≡ pin_at n j
   padded_pin_other j b =
       ⊎_elim (padded_pin_own j b) (λ h. padded_pin_past j b h ∙ sym (get_or_past n.pins j 2 (omega (arith, b.pins_are))))
-
--- one dummy, brought within the bounds
-abbrev pub fit : Counts → Dummy → Dummy
-fit c d = record { next = min d.next (top c); pin = min d.pin 2 }
-
-pub fitted_length : (c : Counts) (ds : List Dummy) → length (fitted c ds) ≡ min (256 - c.flops) (length ds)
-fitted_length c ds = simp (length-map, length-take)
-
-pub fitted_at : (c : Counts) (ds : List Dummy) (k : ℕ) (d : Dummy) → k < length (fitted c ds)
-    → get_or (fitted c ds) k d ≡ record { next = min (get_or ds k d).next (top c); pin = min (get_or ds k d).pin 2 }
-fitted_at c ds k d h =
-    let l : k < min (256 - c.flops) (length ds) = omega (arith, fitted_length c ds) in
-    get_or-map (fit c) (take (256 - c.flops) ds) k d d (simp length-take l) ∙ ap (fit c) (get_or-take (256 - c.flops) ds k d (omega arith))

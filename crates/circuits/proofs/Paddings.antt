@@ -1,22 +1,27 @@
 -- What padding keeps: the bounds, and what a cycle gives.
-use Rattle.std.proofs.Common.{◌≡◌, ℕ, ◌+◌, ◌-◌, ◌*◌, ◌/◌, ◌%◌, ◌<◌, ◌≤◌, min, Bool, false, leb, List, [], ◌∷◌, ◌++◌, map, length, get_or, take, drop, sym, refl, ap, ◌∙◌, subst, ap₂, arith}
+use Rattle.std.proofs.Common.{◌≡◌, ℕ, ◌+◌, ◌*◌, ◌/◌, ◌%◌, ◌<◌, ◌≤◌, Bool, false, leb, List, [], ◌∷◌, ◌++◌, map, length, get_or, take, drop, sym, refl, ap, ◌∙◌, subst, ap₂, arith}
 use mathlib.Core.List.{map-map}
+use Rattle.std.proofs.Props.{props}
 use Rattle.std.specs.List.{AllByRecursion}
 use Rattle.std.proofs.lemmas.List.FromFn.{fill_by_all, take-map-range_with_len}
-use Rattle.std.proofs.ByRecursion.{All-append, all_from_every, All-map, All-weaker}
-use Rattle.std.proofs.lemmas.List.{append_assoc, get_or_append_left, length-append, length-map, map-append, take_all, take-append-drop}
+use Rattle.std.proofs.ByRecursion.{All-append, All-map, All-weaker}
+use Rattle.std.proofs.lemmas.List.{append_assoc, get_or_append_left, length-append, length-map, map-append, take-append-drop}
 use Rattle.std.proofs.lemmas.Bool.{cond_both, cond-false, cond-true, le-leb, lt-leb}
 use Rattle.circuits.specs.declared.counts.Counts.{Counts}
 use Rattle.circuits.specs.declared.dummy.Dummy.{Dummy}
-use Rattle.circuits.specs.Net.{Net, Bounded, BoundedCounts, top, gate_at, gate_literal, first, before, value, values}
+use Rattle.circuits.specs.Net.{Net, Bounded, top, gate_at, gate_literal, first, before, value, values}
 use Rattle.circuits.specs.Renumbered.{renumbered, both_renumbered}
-use Rattle.circuits.specs.Padded.{moved_up, padded, Fitting, PaddingLaws, fitted}
+use Rattle.circuits.specs.Padded.{moved_up, padded, Fitting, PaddingLaws}
 use Rattle.circuits.proofs.NetsBefore.{length_before}
-use Rattle.circuits.proofs.PaddedPlaces.{fit, fitted_length, padded_gate}
+use Rattle.circuits.proofs.PaddedPlaces.{padded_gate}
 use Rattle.circuits.proofs.Renumbering.{Agree, same_values}
 
 abbrev Fits : Counts → Dummy → Type 0
 Fits c d = (d.next ≤ top c) × (d.pin ≤ 2)
+
+-- dummies fit in one way, so that a struct may keep the fact
+pub Fitting-prop : (c : Counts) (ds : List Dummy) → IsProp (Fitting c ds)
+Fitting-prop c ds = Prim.hlevel props
 
 renumbered_le : (c : Counts) (d x : ℕ) → renumbered (moved_up c d) x ≤ x + 2 * d
 renumbered_le c d x =
@@ -57,27 +62,6 @@ padded_bounded n ds b f =
       pins_in = All-append (λ p. p ≤ 2) n.pins (map (λ d. d.pin) ds) b.pins_in dummy-pins;
       outs_in = all-low n.outs b.outs_in;
     }
-
-pub fitted_fits : (c : Counts) (ds : List Dummy) → BoundedCounts c → Fitting c (fitted c ds)
-fitted_fits c ds b =
-    let ds' : List Dummy = take (256 - c.flops) ds in (
-      omega (arith, fitted_length c ds, b.few_flops),
-      All-map (Fits c) (fit c) ds' (all_from_every (λ d. Fits c (fit c d)) ds' (λ _ d _ _. (omega arith, omega arith))),
-    )
-
-fit_same : (c : Counts) (ds : List Dummy) → AllByRecursion (Fits c) ds → map (fit c) ds ≡ ds
-fit_same c [] h = refl
-fit_same c (d ∷ ds) (h, hs) =
-    let x : min d.next (top c) ≡ d.next = omega (arith, h.0) in
-    let p : min d.pin 2 ≡ d.pin = omega (arith, h.1) in
-    let here : fit c d ≡ d = ap₂ (λ x p. record { next = x; pin = p }) x p in
-    ap₂ (λ y ys. y ∷ ys) here (fit_same c ds hs)
-
-pub fitted_same : (c : Counts) (ds : List Dummy) → Fitting c ds → fitted c ds ≡ ds
-fitted_same c ds f = ap (map (fit c)) (take_all (256 - c.flops) ds (omega (arith, f.0))) ∙ fit_same c ds f.1
-
-pub fitted_bounded : (n : Net) (ds : List Dummy) → Bounded n → Bounded (padded n (fitted n.counts ds))
-fitted_bounded n ds b = padded_bounded n (fitted n.counts ds) b (fitted_fits n.counts ds b.counts_in)
 
 module _ (n : Net) (ds : List Dummy) (state held inputs : List Bool) (l : length state ≡ n.counts.flops) where
   abbrev to : ℕ → ℕ

@@ -1,8 +1,8 @@
 -- Matched circuits: the flops of a circuit in another order.
-use Rattle.std.specs.Prelude.{◌≡◌, ℕ, suc, ◌+◌, ◌-◌, ◌<◌, min, Bool, false, cond, ◌&&◌, List, [], ◌∷◌, map, length, ◌==◌, nat_le, nat_lt, slice_index, slice_index_or}
+use Rattle.std.specs.Prelude.{◌≡◌, ℕ, suc, ◌+◌, ◌-◌, ◌<◌, Bool, false, cond, ◌&&◌, List, [], ◌∷◌, map, length, ◌==◌, nat_le, nat_lt, slice_index, slice_index_or}
 use Rattle.std.specs.List.{range_with_len}
 use Rattle.circuits.specs.declared.counts.Counts.{Counts}
-use Rattle.circuits.specs.Net.{Net, Bounded, next_at, pin_at, first, cycle_outs, cycle_nexts}
+use Rattle.circuits.specs.Net.{Net, Bounded, next_at, pin_at, cycle_outs, cycle_nexts}
 use Rattle.circuits.specs.Renumbered.{renumbered, both_renumbered}
 
 -- where f stands first in p; the length of p where it does not stand in it
@@ -53,12 +53,3 @@ pub record MatchingLaws (n : Net) (p : List ℕ) : Type 0 where
   pub names_flops : (j : ℕ) → j < n.counts.flops → (slice_index p j < n.counts.flops) × (place p (slice_index p j) ≡ j)
   pub inverse_in_order : InSomeOrder n.counts.flops (inverse p)
   pub matched_back : matched (matched n p) (inverse p) ≡ n
-
--- The circuit that an order and its places stand for, whatever the two lists hold: an entry that is missing is 0, and a place past the last
--- flop is the last. With an order and its inverse it is the matched circuit.
-abbrev pub wired : Net → List ℕ → List ℕ → Net
-wired n p places = rewired n (first 0 n.counts.flops p) (λ f. min (slice_index places f) (n.counts.flops - 1))
-
--- how that renumbers nets
-abbrev pub rewiring : Net → List ℕ → ℕ → ℕ
-rewiring n places = flops_moved n.counts (λ f. min (slice_index places f) (n.counts.flops - 1))

@@ -1,5 +1,5 @@
 -- Padded circuits: dummy flops stand after a circuit's own.
-use Rattle.std.specs.Prelude.{◌≡◌, ℕ, ◌+◌, ◌-◌, ◌≤◌, min, Bool, cond, List, ◌++◌, map, length, take, nat_le}
+use Rattle.std.specs.Prelude.{◌≡◌, ℕ, ◌+◌, ◌≤◌, Bool, cond, List, ◌++◌, map, length, nat_le}
 use Rattle.std.specs.List.{AllByRecursion}
 use Rattle.circuits.specs.declared.counts.Counts.{Counts}
 use Rattle.circuits.specs.declared.dummy.Dummy.{Dummy}
@@ -40,15 +40,3 @@ pub record PaddingLaws (n : Net) (ds : List Dummy) : Type 0 where
   pub same_nexts : (state held inputs : List Bool) → length state ≡ n.counts.flops
       → cycle_nexts (padded n ds) (state ++ held) inputs
       ≡ cycle_nexts n state inputs ++ map (λ d. value (values n state inputs) d.next) ds
-
--- Any dummies, brought within the bounds: those that there is room for, with a literal and a pin that are not too large. Fitting ones stay
--- as they are.
-abbrev pub fitted : Counts → List Dummy → List Dummy
-fitted c ds = map (λ d. record { next = min d.next (top c); pin = min d.pin 2 }) (take (256 - c.flops) ds)
-
--- what a padding with any dummies stands for, and how it renumbers nets
-abbrev pub padded_by : Net → List Dummy → Net
-padded_by n ds = padded n (fitted n.counts ds)
-
-abbrev pub raising : Net → List Dummy → ℕ → ℕ
-raising n ds = moved_up n.counts (length (fitted n.counts ds))

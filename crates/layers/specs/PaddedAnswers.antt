@@ -1,36 +1,26 @@
 -- How the private functions of a padding tell what the circuit below answers.
-use Rattle.std.specs.Prelude.{◌≡◌, ℕ, ◌≤◌, List, Some, None, Option}
-use Rattle.circuits.specs.declared.circuit.Gate.{Gate}
+use Rattle.std.specs.Prelude.{◌≡◌, ℕ, ◌≤◌, List, length, Option, MatchOption}
 use Rattle.circuits.specs.declared.dummy.Dummy.{Dummy}
-use Rattle.circuits.specs.Net.{Net, top, gate_at, next_at, pin_at, out_at}
+use Rattle.circuits.specs.Net.{Net, top, next_at, pin_at}
 use Rattle.circuits.specs.Renumbered.{renumbered}
-use Rattle.circuits.specs.Padded.{padded_by, raising}
+use Rattle.circuits.specs.Padded.{padded, moved_up}
 
--- x is the literal of the circuit below that is this one above
-pub record Raised (n : Net) (ds : List Dummy) (above x : ℕ) : Type 0 where
-  pub is : above ≡ renumbered (raising n ds) x
+-- x is the next literal of flop j, numbered as in the circuit below
+pub record NextRaised (n : Net) (ds : List Dummy) (j x : ℕ) : Type 0 where
+  pub is : next_at (padded n ds) j ≡ renumbered (moved_up n.counts (length ds)) x
   pub low : x ≤ top n.counts
 
--- of a gate, of a flop's next literal, and of an output
-pub record GateRaised (n : Net) (ds : List Dummy) (i : ℕ) (g : Gate) : Type 0 where
-  pub left : Raised n ds (gate_at (padded_by n ds) i).0 g.left
-  pub right : Raised n ds (gate_at (padded_by n ds) i).1 g.right
+-- the circuit below answers for flop j
+pub record AnsweredBelow (n : Net) (ds : List Dummy) (j : ℕ) : Type 0 where
+  pub next_is : NextRaised n ds j (next_at n j)
+  pub pin_is : pin_at (padded n ds) j ≡ pin_at n j
 
-abbrev pub NextRaised : Net → List Dummy → ℕ → ℕ → Type 0
-NextRaised n ds j x = Raised n ds (next_at (padded_by n ds) j) x
+-- flop j is the dummy d
+pub record AnsweredBy (n : Net) (ds : List Dummy) (j : ℕ) (d : Dummy) : Type 0 where
+  pub next_is : NextRaised n ds j d.next
+  pub pin_is : pin_at (padded n ds) j ≡ d.pin
+  pub is_pin : d.pin ≤ 2
 
-abbrev pub OutRaised : Net → List Dummy → ℕ → ℕ → Type 0
-OutRaised n ds j x = Raised n ds (out_at (padded_by n ds) j) x
-
--- the dummy that flop j is, or none where the circuit below answers for j
-abbrev pub next_found : Net → ℕ → Option Dummy → ℕ
-next_found n j None = next_at n j
-next_found n j (Some d) = d.next
-
-abbrev pub pin_found : Net → ℕ → Option Dummy → ℕ
-pin_found n j None = pin_at n j
-pin_found n j (Some d) = d.pin
-
-pub record Found (n : Net) (ds : List Dummy) (j : ℕ) (o : Option Dummy) : Type 0 where
-  pub next_is : NextRaised n ds j (next_found n j o)
-  pub pin_is : pin_at (padded_by n ds) j ≡ pin_found n j o
+-- the dummy that flop j is, or none where it is no dummy
+abbrev pub Found : Net → List Dummy → ℕ → Option Dummy → Type 0
+Found n ds j o = MatchOption o (AnsweredBelow n ds j) (AnsweredBy n ds j)

@@ -1,8 +1,12 @@
 // Why a layer cannot be put over a circuit.
-ghost use Rattle.std.specs.Prelude.{◌≡◌};
-ghost use Rattle.layers.specs.Faults as spec;
+ghost use Rattle.std.specs.Prelude.{◌≡◌, Some};
+ghost use Rattle.layers.specs.Faults.{pad_number, told_pad, match_number, told_match};
 
-#[derive(Clone, Copy)]
+use circuits::numbered::Numbered;
+use std::error::Error;
+use std::fmt;
+
+#[derive(Clone, Copy, Debug, PartialEq, Eq)]
 pub enum PadFault {
     // more than 16 dummies
     ManyDummies,
@@ -14,16 +18,30 @@ pub enum PadFault {
     LargePin(u32),
 }
 
-impl PadFault {
-    // The number by which users know the refusal.
-    pub fn number(self) -> u32
-        ensures { result ≡ spec.pad_number self }
-    {
+impl Numbered for PadFault {
+    ghost number_of = { pad_number };
+
+    fn number(&self) -> u32 {
         8
     }
 }
 
-#[derive(Clone, Copy)]
+impl fmt::Display for PadFault {
+    ghost output = { λ fault. Some (told_pad fault) };
+
+    fn fmt<W: fmt::Write>(&self, f: &mut fmt::Formatter<W>) -> fmt::Result {
+        match self {
+            PadFault::ManyDummies => write!(f, "dummies"),
+            PadFault::ManyFlops => write!(f, "flops"),
+            PadFault::LargeLiteral(k) => write!(f, "literal of dummy {k}"),
+            PadFault::LargePin(k) => write!(f, "pin of dummy {k}"),
+        }
+    }
+}
+
+impl Error for PadFault {}
+
+#[derive(Clone, Copy, Debug, PartialEq, Eq)]
 pub enum MatchFault {
     // the order has not one entry for each flop
     WrongLength,
@@ -31,11 +49,23 @@ pub enum MatchFault {
     Unmatched(u32),
 }
 
-impl MatchFault {
-    // The number by which users know the refusal.
-    pub fn number(self) -> u32
-        ensures { result ≡ spec.match_number self }
-    {
+impl Numbered for MatchFault {
+    ghost number_of = { match_number };
+
+    fn number(&self) -> u32 {
         9
     }
 }
+
+impl fmt::Display for MatchFault {
+    ghost output = { λ fault. Some (told_match fault) };
+
+    fn fmt<W: fmt::Write>(&self, f: &mut fmt::Formatter<W>) -> fmt::Result {
+        match self {
+            MatchFault::WrongLength => write!(f, "length"),
+            MatchFault::Unmatched(flop) => write!(f, "flop {flop}"),
+        }
+    }
+}
+
+impl Error for MatchFault {}

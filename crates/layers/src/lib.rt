@@ -3,4 +3,5 @@
 
 pub mod fault;
 pub mod matched;
+mod order;
 pub mod padded;

@@ -1,18 +1,19 @@
 // A circuit with dummy flops after its own.
 ghost use Rattle.std.specs.Prelude.{◌≡◌, ◌+◌, ◌≤◌, length, OnOk};
 ghost use Rattle.circuits.specs.Checks.{unless_due};
-ghost use Rattle.circuits.specs.Net.{BoundedCounts, top};
+ghost use Rattle.circuits.specs.Net.{BoundedCounts, next_at, pin_at, top};
 ghost use Rattle.circuits.specs.Renumbered.{renumbered};
-ghost use Rattle.circuits.specs.Padded.{fitted, moved_up, padded_by, PaddingLaws};
-ghost use Rattle.circuits.proofs.Paddings.{fitted_bounded};
+ghost use Rattle.circuits.specs.Padded.{padded, Fitting, moved_up, PaddingLaws};
+ghost use Rattle.circuits.proofs.Paddings.{Fitting-prop, padded_bounded};
 ghost use Rattle.layers.specs.Padding.{count_checks, dummy_checks, each_checked, pad_checks, padding, PadsFitting};
-ghost use Rattle.layers.specs.PaddedAnswers.{GateRaised, NextRaised, OutRaised, Found};
+ghost use Rattle.layers.specs.PaddedAnswers.{NextRaised, Found};
 ghost use Rattle.layers.specs.Layers.{meant};
 
 use crate::fault::PadFault;
 use circuits::circuit::{Circuit, Gate};
 use circuits::counts::{Counts, MOST_FLOPS};
 use circuits::dummy::Dummy;
+use circuits::pin::Pin;
 
 pub const MOST_DUMMIES: usize = 16;
 
@@ -21,6 +22,7 @@ pub const MOST_DUMMIES: usize = 16;
 pub struct Padded<'a, 'd, C: Circuit> {
     below: &'a C,
     dummies: &'d [Dummy],
+    ghost fits: { Fitting (C.Circuit.meaning below.now).counts dummies.now } by { Fitting-prop (C.Circuit.meaning below.now).counts dummies.now },
 }
 
 // How nets are renumbered: so many flops stand between the flops and the gates of a circuit of these counts.
@@ -28,12 +30,14 @@ pub struct Padded<'a, 'd, C: Circuit> {
 struct Shift {
     counts: Counts,
     added: u32,
+    ghost bounded: { BoundedCounts counts },
+    ghost few: { counts.flops + added ≤ 256 },
 }
 
 impl Shift {
     // A literal of the circuit below; gates' nets move up.
     fn literal(self, x: u32) -> u32
-        requires { (BoundedCounts self.counts) × ((self.added ≤ 256) × (x ≤ top self.counts)) }
+        requires { x ≤ top self.counts }
         ensures { result ≡ renumbered (moved_up self.counts self.added) x }
     {
         if x / 2 <= self.counts.inputs + self.counts.flops {
@@ -55,13 +59,13 @@ fn judge_count(counts: Counts, dummies: usize) -> Result<(), PadFault>
     Ok(())
 }
 
-fn judge_dummy(counts: Counts, k: u32, dummy: Dummy) -> Result<(), PadFault>
-    ensures { result ≡ unless_due (dummy_checks counts k dummy) tt }
+fn judge_dummy(counts: Counts, k: u32, dummy: &Dummy) -> Result<(), PadFault>
+    ensures { result ≡ unless_due (dummy_checks counts k dummy.now) tt }
 {
     if dummy.next as u64 > counts.largest_literal() {
         return Err(PadFault::LargeLiteral(k));
     }
-    if dummy.pin > 2 {
+    if Pin::try_from(dummy.pin).is_err() {
         return Err(PadFault::LargePin(k));
     }
     Ok(())
@@ -71,23 +75,27 @@ fn judge_dummies(counts: Counts, dummies: &[Dummy]) -> Result<(), PadFault>
     requires { length dummies.now ≤ 16 }
     ensures { result ≡ unless_due (each_checked counts 0 dummies.now) tt }
 {
-    for k in 0..dummies.len() {
-        judge_dummy(counts, k as u32, dummies[k])?;
+    for (k, dummy) in dummies.iter().enumerate() {
+        judge_dummy(counts, k as u32, dummy)?;
     }
     Ok(())
 }
 
+#[tactic(auto, using(crate::proofs::Pads::pads_fitting, crate::proofs::Pads::passed_fits))]
 fn judge_all(counts: Counts, dummies: &[Dummy]) -> Result<(), PadFault>
-    ensures { result ≡ unless_due (pad_checks counts dummies.now) tt }
+    ensures answer { result ≡ unless_due (pad_checks counts dummies.now) tt }
+    ensures exact { PadsFitting counts dummies.now }
+    ensures fits { OnOk result (Fitting counts dummies.now) }
 {
     judge_count(counts, dummies.len())?;
     judge_dummies(counts, dummies)
 }
 
-// Judges the dummies; where they pass, none is changed by what a padding stands for.
+// Judges the dummies for the circuit below; those that pass keep the laws of padding.
 fn judge<C: Circuit>(below: &C, dummies: &[Dummy]) -> Result<(), PadFault>
-    ensures answer { meant (λ _. padded_by (C.Circuit.meaning below.now) dummies.now) result ≡ padding (C.Circuit.meaning below.now) dummies.now }
+    ensures answer { result ≡ unless_due (pad_checks (C.Circuit.meaning below.now).counts dummies.now) tt }
     ensures exact { PadsFitting (C.Circuit.meaning below.now).counts dummies.now }
+    ensures fits { OnOk result (Fitting (C.Circuit.meaning below.now).counts dummies.now) }
     ensures laws { OnOk result (PaddingLaws (C.Circuit.meaning below.now) dummies.now) }
 {
     judge_all(below.counts(), dummies)
@@ -97,7 +105,7 @@ impl<'a, 'd, C: Circuit> Padded<'a, 'd, C> {
     // The circuit below with these dummies, or why not: the number of dummies is judged first, then each dummy, its literal before
     // its pin.
     pub fn new(below: &'a C, dummies: &'d [Dummy]) -> Result<Padded<'a, 'd, C>, PadFault>
-        ensures answer { meant (λ p. padded_by (C.Circuit.meaning p.below.now) p.dummies.now) result ≡ padding (C.Circuit.meaning below.now) dummies.now }
+        ensures answer { meant (λ p. padded (C.Circuit.meaning p.below.now) p.dummies.now) result ≡ padding (C.Circuit.meaning below.now) dummies.now }
         ensures exact { PadsFitting (C.Circuit.meaning below.now).counts dummies.now }
         ensures laws { OnOk result (PaddingLaws (C.Circuit.meaning below.now) dummies.now) }
     {
@@ -107,40 +115,24 @@ impl<'a, 'd, C: Circuit> Padded<'a, 'd, C> {
 
     fn shift(&self) -> Shift
         ensures counts { result.counts ≡ (C.Circuit.meaning self.now.below.now).counts }
-        ensures added { result.added ≡ length (fitted (C.Circuit.meaning self.now.below.now).counts self.now.dummies.now) }
-        ensures small { (BoundedCounts result.counts) × ((result.added ≤ 256) × (result.counts.flops + result.added ≤ 256)) }
+        ensures added { result.added ≡ length self.now.dummies.now }
     {
-        let counts = self.below.counts();
-        let room = (MOST_FLOPS - counts.flops) as usize;
-        let added = self.dummies.len().min(room) as u32;
-        Shift { counts, added }
+        Shift {
+            counts: self.below.counts(),
+            added: self.dummies.len() as u32,
+        }
     }
 
     // The dummy that flop j is, if it is one.
     fn dummy(&self, j: u32) -> Option<Dummy>
         ensures { Found (C.Circuit.meaning self.now.below.now) self.now.dummies.now j result }
     {
-        let Shift { counts, added } = self.shift();
-        if j < counts.flops {
-            return None;
-        }
-        let k = j - counts.flops;
-        if k >= added {
-            return None;
-        }
-        let dummy = self.dummies[k as usize];
-        let next = (dummy.next as u64).min(counts.largest_literal()) as u32;
-        let pin = dummy.pin.min(2);
-        Some(Dummy { next, pin })
+        let Counts { flops, .. } = self.below.counts();
+        let k = j.checked_sub(flops)?;
+        self.dummies.get(k as usize).copied()
     }
 
-    // What the circuit below has for gate i, for flop j or its dummy, and for output j.
-    fn gate_below(&self, i: u32) -> Gate
-        ensures { GateRaised (C.Circuit.meaning self.now.below.now) self.now.dummies.now i result }
-    {
-        self.below.gate(i)
-    }
-
+    // The next literal of flop j, numbered as in the circuit below.
     fn next_below(&self, j: u32) -> u32
         ensures { NextRaised (C.Circuit.meaning self.now.below.now) self.now.dummies.now j result }
     {
@@ -149,29 +141,23 @@ impl<'a, 'd, C: Circuit> Padded<'a, 'd, C> {
             None => self.below.next(j),
         }
     }
-
-    fn out_below(&self, j: u32) -> u32
-        ensures { OutRaised (C.Circuit.meaning self.now.below.now) self.now.dummies.now j result }
-    {
-        self.below.out(j)
-    }
 }
 
 impl<'a, 'd, C: Circuit> Circuit for Padded<'a, 'd, C> {
-    ghost meaning = { λ x. padded_by (C.Circuit.meaning x.below.now) x.dummies.now };
+    ghost meaning = { λ x. padded (C.Circuit.meaning x.below.now) x.dummies.now };
 
-    ghost bounded = { λ x. fitted_bounded (C.Circuit.meaning x.below.now) x.dummies.now (C.Circuit.bounded x.below.now) };
+    ghost bounded = { λ x. padded_bounded (C.Circuit.meaning x.below.now) x.dummies.now (C.Circuit.bounded x.below.now) x.fits };
 
     fn counts(&self) -> Counts {
-        let Shift { counts, added } = self.shift();
+        let counts = self.below.counts();
         Counts {
-            flops: counts.flops + added,
+            flops: counts.flops + self.dummies.len() as u32,
             ..counts
         }
     }
 
     fn gate(&self, i: u32) -> Gate {
-        let Gate { left, right } = self.gate_below(i);
+        let Gate { left, right } = self.below.gate(i);
         let shift = self.shift();
         Gate {
             left: shift.literal(left),
@@ -180,19 +166,17 @@ impl<'a, 'd, C: Circuit> Circuit for Padded<'a, 'd, C> {
     }
 
     fn next(&self, j: u32) -> u32 {
-        let below = self.next_below(j);
-        self.shift().literal(below)
+        self.shift().literal(self.next_below(j))
     }
 
-    fn pin(&self, j: u32) -> u32 {
+    fn pin(&self, j: u32) -> Pin {
         match self.dummy(j) {
-            Some(dummy) => dummy.pin,
+            Some(dummy) => Pin::try_from(dummy.pin).unwrap(),
             None => self.below.pin(j),
         }
     }
 
     fn out(&self, j: u32) -> u32 {
-        let below = self.out_below(j);
-        self.shift().literal(below)
+        self.shift().literal(self.below.out(j))
     }
 }

@@ -1,17 +1,15 @@
-use Rattle.std.proofs.Common.{ap, ◌∙◌}
-use Rattle.circuits.specs.Checks.{unless_due}
-use Rattle.layers.specs.Padding.{pad_checks}
-use Rattle.layers.proofs.Pads.{judged, judged_laws, pads_fitting}
+use Rattle.std.proofs.Common.{subst}
+use Rattle.std.proofs.lemmas.Result.{on_ok_weaker}
+use Rattle.circuits.specs.declared.counts.Counts.{Counts}
+use Rattle.circuits.specs.Padded.{Fitting}
+use Rattle.circuits.proofs.Paddings.{padding_laws}
 use Rattle.layers.proofs.padded.judge.Goals as goal
 
-pub returns : goal.returns
-returns g c =
-    let n = g.C.Circuit.meaning c.args.below.now in
-    let b = g.C.Circuit.bounded c.args.below.now in
+pub returns-clause-laws : goal.returns-clause-laws
+returns-clause-laws g c =
     let ds = c.args.dummies.now in
-    let e = c.judge_all.ensures ∙ ap (λ k. unless_due (pad_checks k ds) (tt {0})) c.counts.ensures in
-    record {
-      answer = judged n b ds c.judge_all.result e;
-      exact = pads_fitting n.counts ds;
-      laws = judged_laws n b ds c.judge_all.result e;
-    }
+    on_ok_weaker c.judge_all.result
+    (λ fits.
+    padding_laws (g.C.Circuit.meaning c.args.below.now) ds (g.C.Circuit.bounded c.args.below.now)
+    (subst (λ (k : Counts). Fitting k ds) c.counts.ensures fits))
+    c.judge_all.ensures.fits

@@ -1,0 +1,86 @@
+// The order of a circuit's flops.
+ghost use Rattle.std.specs.Prelude.{◌≡◌, ◌<◌, ◌≤◌, [], ◌∷◌, map, length, slice_get, OnOk};
+ghost use Rattle.std.specs.List.{range_with_len};
+ghost use Rattle.circuits.specs.Checks.{unless_due};
+ghost use Rattle.circuits.specs.Matched.{place, InSomeOrder};
+ghost use Rattle.layers.specs.Layers.{meant};
+ghost use Rattle.layers.specs.Matching.{flop_check, match_checks, MatchesOrders};
+ghost use Rattle.layers.specs.Orders.{Placed, PlacesOf};
+
+use crate::fault::MatchFault;
+use circuits::counts::MOST_FLOPS;
+
+const FLOPS: usize = MOST_FLOPS as usize;
+
+// The flops of a circuit in some order. The place of each is kept beside it, so that no answer searches.
+#[derive(Drop)]
+pub(crate) struct Order<'p> {
+    flops: &'p [u32],
+    places: [u32; FLOPS],
+    ghost few: { length flops.now ≤ 256 },
+    ghost in_order: { InSomeOrder (length flops.now) flops.now },
+    ghost placed: { PlacesOf flops.now places },
+}
+
+// The place of each flop that is named; of any other, a place too.
+fn places_in(flops: &[u32]) -> [u32; FLOPS]
+    requires { length flops.now ≤ 256 }
+    ensures { Placed flops.now result }
+{
+    let mut places = [0; FLOPS];
+    for (j, &flop) in flops.iter().enumerate() {
+        if flop < MOST_FLOPS {
+            places[flop as usize] = j as u32;
+        }
+    }
+    places
+}
+
+// Judges whether each flop stands at its place.
+fn judge_flops(flops: &[u32], places: &[u32; FLOPS]) -> Result<(), MatchFault>
+    requires { (length flops.now ≤ 256) × Placed flops.now places.now }
+    ensures answer { result ≡ unless_due (map (flop_check flops.now) (range_with_len 0 (length flops.now))) tt }
+    ensures ordered { OnOk result (InSomeOrder (length flops.now) flops.now) }
+    ensures placed { OnOk result (PlacesOf flops.now places.now) }
+{
+    for (flop, &place) in places[..flops.len()].iter().enumerate() {
+        let flop = flop as u32;
+        if flops[place as usize] != flop {
+            return Err(MatchFault::Unmatched(flop));
+        }
+    }
+    Ok(())
+}
+
+impl<'p> Order<'p> {
+    #[tactic(auto, using(crate::proofs::Matches::matches_orders))]
+    // This order for so many flops, or why it is none: the length is judged first, then each flop.
+    pub(crate) fn new(flops: &'p [u32], count: u32) -> Result<Order<'p>, MatchFault>
+        requires { count ≤ 256 }
+        ensures answer { meant (λ order. order.flops.now) result ≡ unless_due (match_checks count flops.now) flops.now }
+        ensures exact { MatchesOrders count flops.now }
+        ensures ordered { OnOk result (InSomeOrder count flops.now) }
+    {
+        if flops.len() != count as usize {
+            return Err(MatchFault::WrongLength);
+        }
+        let places = places_in(flops);
+        judge_flops(flops, &places)?;
+        Ok(Order { flops, places })
+    }
+
+    // The flop at place j.
+    pub(crate) fn flop(&self, j: u32) -> Option<u32>
+        ensures { result ≡ slice_get self.now.flops.now j }
+    {
+        self.flops.get(j as usize).copied()
+    }
+
+    // The place of a flop.
+    pub(crate) fn place(&self, flop: u32) -> u32
+        requires { flop < length self.now.flops.now }
+        ensures { result ≡ place self.now.flops.now flop }
+    {
+        self.places[flop as usize]
+    }
+}
