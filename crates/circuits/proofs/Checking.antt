@@ -18,9 +18,6 @@ module _ {X F : Type 0} where
   pub none_from_ok : (cs : List (Check F)) (x y : X) → unless_due cs x ≡ Ok y → first_due cs ≡ None
   none_from_ok cs x y e = none_told (first_due cs) x y e
 
-  pub ok_from_none : (cs : List (Check F)) (x : X) → first_due cs ≡ None → unless_due cs x ≡ Ok x
-  ok_from_none cs x e = ap (λ (o : Option F). elim o [ None ↦ Ok x | Some g ↦ Err g ]) e
-
   pub err_from_due : (cs : List (Check F)) (x : X) (f : F) → first_due cs ≡ Some f → unless_due cs x ≡ Err f
   err_from_due cs x f e = ap (λ (o : Option F). elim o [ None ↦ Ok x | Some g ↦ Err g ]) e
 

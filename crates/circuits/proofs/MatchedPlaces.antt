@@ -1,10 +1,9 @@
 -- What a matched circuit has at each place.
-use Rattle.std.proofs.Common.{◌≡◌, ℕ, ◌<◌, ◌≤◌, List, map, get_or, sym, ap, ◌∙◌, ap₂, inl, arith}
+use Rattle.std.proofs.Common.{◌≡◌, ℕ, ◌<◌, ◌≤◌, List, map, get_or, sym, ap, ◌∙◌, inl, arith}
 use Rattle.std.proofs.lemmas.List.{length-map, get_or-map, get_or_past}
-use Rattle.circuits.specs.Net.{Net, Bounded, gate_at, next_at, pin_at, out_at}
-use Rattle.circuits.specs.Renumbered.{renumbered, both_renumbered}
+use Rattle.circuits.specs.Net.{Net, Bounded, next_at, pin_at}
+use Rattle.circuits.specs.Renumbered.{renumbered}
 use Rattle.circuits.specs.Matched.{place, InSomeOrder, flops_moved, matched}
-use Rattle.circuits.proofs.Mapped.{get_or_mapped}
 use Rattle.circuits.proofs.Matchings.{moved_other}
 
 module _ (n : Net) (p : List ℕ) where
@@ -14,12 +13,6 @@ module _ (n : Net) (p : List ℕ) where
   -- literal 0 stays
   zero_kept : renumbered nets 0 ≡ 0
   zero_kept = omega (arith, moved_other n.counts (place p) 0 (inl (omega arith)))
-
-  pub matched_gate : (i : ℕ) → gate_at (matched n p) i ≡ both_renumbered (flops_moved n.counts (place p)) (gate_at n i)
-  matched_gate i = get_or_mapped (both_renumbered nets) (0, 0) (0, 0) (ap₂ (λ a b. (a, b)) zero_kept zero_kept) n.operands i
-
-  pub matched_out : (j : ℕ) → out_at (matched n p) j ≡ renumbered (flops_moved n.counts (place p)) (out_at n j)
-  matched_out j = get_or_mapped (renumbered nets) 0 0 zero_kept n.outs j
 
   module _ (o : InSomeOrder n.counts.flops p) (j : ℕ) where
     -- flop j is the flop that stands at j in the order

@@ -4,7 +4,7 @@ use lib.Dec.{leb-zero}
 use Rattle.std.proofs.lemmas.List.{get_or_append_left, get_or-append_right, get_or-map, get_or_past, length-append, length-map}
 use Rattle.circuits.specs.declared.counts.Counts.{Counts}
 use Rattle.circuits.specs.declared.dummy.Dummy.{Dummy}
-use Rattle.circuits.specs.Net.{Net, Bounded, gate_at, next_at, pin_at, out_at}
+use Rattle.circuits.specs.Net.{Net, Bounded, gate_at, next_at, pin_at}
 use Rattle.circuits.specs.Renumbered.{renumbered, both_renumbered}
 use Rattle.circuits.specs.Padded.{moved_up, padded}
 use Rattle.circuits.proofs.Mapped.{get_or_mapped}
@@ -29,9 +29,6 @@ module _ (n : Net) (ds : List Dummy) where
 
   pub padded_gate : (i : ℕ) → gate_at (padded n ds) i ≡ both_renumbered (moved_up n.counts (length ds)) (gate_at n i)
   padded_gate = get_or_mapped (both_renumbered to) (0, 0) (0, 0) (ap₂ (λ x y. (x, y)) zero_kept zero_kept) n.operands
-
-  pub padded_out : (j : ℕ) → out_at (padded n ds) j ≡ renumbered (moved_up n.counts (length ds)) (out_at n j)
-  padded_out = get_or_mapped (renumbered to) 0 0 zero_kept n.outs
 
   padded_next : (j : ℕ) → next_at (padded n ds) j ≡ renumbered to (get_or (n.nexts ++ map (λ d. d.next) ds) j 0)
   padded_next = get_or_mapped (renumbered to) 0 0 zero_kept (n.nexts ++ map (λ d. d.next) ds)

@@ -1,12 +1,12 @@
 -- What the checks of an order say, and what passes them.
-use Rattle.std.proofs.Common.{◌≡◌, ℕ, suc, ◌+◌, ◌-◌, ◌<◌, ◌≤◌, eqb, leb, false, List, [], ◌∷◌, map, length, get_or, set, replicate, Ok, Err, Result, sym, refl, ap, ◌∙◌, subst, ⊎_elim, arith}
+use Rattle.std.proofs.Common.{◌≡◌, ℕ, suc, ◌+◌, ◌-◌, ◌<◌, ◌≤◌, eqb, leb, false, List, [], ◌∷◌, map, length, get_or, replicate, Ok, Err, Result, sym, refl, ap, ◌∙◌, subst, ⊎_elim, arith}
 use Rattle.std.specs.List.{range_with_len, slice_get}
 use Rattle.std.specs.Option.{unwrap_or}
 use Rattle.std.proofs.ByRecursion.{All-map, All-get_or, All-from_get_or}
 use Rattle.std.proofs.lemmas.List.FromFn.{length-map-range_with_len, length-range_with_len, get_or-range_with_len, get_or-map-range_with_len}
-use Rattle.std.proofs.lemmas.List.{length-set, get_or-replicate, get_or-set_same, get_or-set_other}
+use Rattle.std.proofs.lemmas.List.{get_or-replicate}
 use Rattle.std.proofs.lemmas.Option.{slice_get-get_or, slice_get_past}
-use Rattle.std.proofs.lemmas.Bool.{cases_lt, cases_eq, eq-eqb, eqb-true, leb-false, le-leb, lt-leb, not-false, not_from_true}
+use Rattle.std.proofs.lemmas.Bool.{cases_lt, eq-eqb, eqb-true, leb-false, le-leb, lt-leb, not-false, not_from_true}
 use Rattle.circuits.specs.Checks.{Check, unless_due}
 use Rattle.circuits.specs.Net.{Net, Bounded}
 use Rattle.circuits.specs.Matched.{place, InSomeOrder}
@@ -33,33 +33,6 @@ none_placed p = record {
 }
 
 module _ (p places : List ℕ) (j : ℕ) (so_far : PlacedTo p places j) where
-  pub passed_by : 256 ≤ get_or p j 0 → PlacedTo p places (j + 1)
-  passed_by h = record {
-    long = so_far.long;
-    inside = λ f l. omega (arith, so_far.inside f l);
-    stands = λ k l m.
-        ⊎_elim (λ (e : k ≡ j). absurd (omega (arith, ap (λ i. get_or p i 0) e))) (λ (ne : k ≡ j → ⊥). so_far.stands k (omega arith) m) (cases_eq k j);
-  }
-
-  pub placed_here : get_or p j 0 < 256 → PlacedTo p (set places (get_or p j 0) j) (j + 1)
-  placed_here h =
-      let g = get_or p j 0 in
-      let long = so_far.long in
-      let here = get_or-set_same places g j 0 (omega arith) in
-      record {
-        long = length-set places g j ∙ so_far.long;
-        inside = λ f l.
-            ⊎_elim (λ (e : g ≡ f). omega (arith, here, ap (λ i. get_or (set places g j) i 0) e))
-            (λ (ne : g ≡ f → ⊥). omega (arith, get_or-set_other places g f j 0 (λ e. ne (sym e)), so_far.inside f l)) (cases_eq g f);
-        stands = λ k l m.
-            ⊎_elim
-            (λ (e : g ≡ get_or p k 0). ap (λ i. get_or p (get_or (set places g j) i 0) 0) (sym e) ∙ ap (λ i. get_or p i 0) here ∙ e)
-            (λ (ne : g ≡ get_or p k 0 → ⊥).
-            ap (λ i. get_or p i 0) (get_or-set_other places g (get_or p k 0) j 0 (λ e. ne (sym e)))
-            ∙ so_far.stands k (⊎_elim (λ (e : k ≡ j). absurd (ne (ap (λ i. get_or p i 0) (sym e)))) (λ (ne : k ≡ j → ⊥). omega arith) (cases_eq k j)) m)
-            (cases_eq g (get_or p k 0));
-      }
-
   pub all_placed : j ≡ length p → Placed p places
   all_placed e = record {
     inside = λ f h some. omega (arith, so_far.inside f h);

@@ -1,5 +1,5 @@
 -- What the checks of dummies say, and what a padding answers for a flop.
-use Rattle.std.proofs.Common.{◌≡◌, ℕ, ◌+◌, ◌-◌, ◌<◌, ◌≤◌, false, ◌⊎◌, List, [], ◌∷◌, length, get_or, Some, None, Option, Ok, Bor, sym, ap, ◌∙◌, inl, inr, arith}
+use Rattle.std.proofs.Common.{◌≡◌, ℕ, ◌+◌, ◌-◌, ◌<◌, ◌≤◌, false, ◌⊎◌, List, [], ◌∷◌, length, get_or, Some, None, Option, Ok, Bor, sym, ap, ◌∙◌, inr, arith}
 use Rattle.std.specs.List.{AllByRecursion}
 use Rattle.std.specs.Option.{option_copied}
 use Rattle.std.specs.Slice.{IsItemAt}
@@ -64,9 +64,6 @@ module _ (n : Net) (b : Bounded n) (ds : List Dummy) (fits : Fitting n.counts ds
         pin_is = padded_pin_dummy n ds j d b h k ∙ sym pin;
         is_pin = omega (arith, f.1);
       }
-
-  pub own_found : j < n.counts.flops → Found n ds j None
-  own_found h = answered_below (inl h)
 
   -- what is looked up past the own flops
   pub lookup_found : n.counts.flops ≤ j → (o : Option (Bor Dummy)) → IsItemAt ds (j - n.counts.flops) o → Found n ds j (option_copied o)

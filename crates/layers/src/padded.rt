@@ -25,28 +25,6 @@ pub struct Padded<'a, 'd, C: Circuit> {
     ghost fits: { Fitting (C.Circuit.meaning below.now).counts dummies.now } by { Fitting-prop (C.Circuit.meaning below.now).counts dummies.now },
 }
 
-// How nets are renumbered: so many flops stand between the flops and the gates of a circuit of these counts.
-#[derive(Clone, Copy)]
-struct Shift {
-    counts: Counts,
-    added: u32,
-    ghost bounded: { BoundedCounts counts },
-    ghost few: { counts.flops + added ≤ 256 },
-}
-
-impl Shift {
-    // A literal of the circuit below; gates' nets move up.
-    fn literal(self, x: u32) -> u32
-        requires { x ≤ top self.counts }
-        ensures { result ≡ renumbered (moved_up self.counts self.added) x }
-    {
-        if x / 2 <= self.counts.inputs + self.counts.flops {
-            return x;
-        }
-        x + 2 * self.added
-    }
-}
-
 fn judge_count(counts: Counts, dummies: usize) -> Result<(), PadFault>
     ensures { result ≡ unless_due (count_checks counts dummies) tt }
 {
@@ -113,14 +91,16 @@ impl<'a, 'd, C: Circuit> Padded<'a, 'd, C> {
         Ok(Padded { below, dummies })
     }
 
-    fn shift(&self) -> Shift
-        ensures counts { result.counts ≡ (C.Circuit.meaning self.now.below.now).counts }
-        ensures added { result.added ≡ length self.now.dummies.now }
+    // A literal of the circuit below; gates' nets move up.
+    fn literal(&self, x: u32) -> u32
+        requires { x ≤ top (C.Circuit.meaning self.now.below.now).counts }
+        ensures { result ≡ renumbered (moved_up (C.Circuit.meaning self.now.below.now).counts (length self.now.dummies.now)) x }
     {
-        Shift {
-            counts: self.below.counts(),
-            added: self.dummies.len() as u32,
+        let Counts { inputs, flops, .. } = self.below.counts();
+        if x / 2 <= inputs + flops {
+            return x;
         }
+        x + 2 * self.dummies.len() as u32
     }
 
     // The dummy that flop j is, if it is one.
@@ -158,15 +138,14 @@ impl<'a, 'd, C: Circuit> Circuit for Padded<'a, 'd, C> {
 
     fn gate(&self, i: u32) -> Gate {
         let Gate { left, right } = self.below.gate(i);
-        let shift = self.shift();
         Gate {
-            left: shift.literal(left),
-            right: shift.literal(right),
+            left: self.literal(left),
+            right: self.literal(right),
         }
     }
 
     fn next(&self, j: u32) -> u32 {
-        self.shift().literal(self.next_below(j))
+        self.literal(self.next_below(j))
     }
 
     fn pin(&self, j: u32) -> Pin {
@@ -177,6 +156,6 @@ impl<'a, 'd, C: Circuit> Circuit for Padded<'a, 'd, C> {
     }
 
     fn out(&self, j: u32) -> u32 {
-        self.shift().literal(self.below.out(j))
+        self.literal(self.below.out(j))
     }
 }
