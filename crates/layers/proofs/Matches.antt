@@ -110,13 +110,12 @@ passed_orders p e =
     (matches_orders (length p) p).0 (rw (eq-eqb (length p) (length p) refl) flops)
 
 -- which flop stands at j, and past the last flop j itself
-pub stands_at : (n : Net) → Bounded n → (p : List ℕ) → InSomeOrder n.counts.flops p → (j : ℕ) → StandsAt n p j (unwrap_or (slice_get p j) j)
-stands_at n b p o j =
-    ⊎_elim (λ h.
-    let at = slice_get-get_or p j 0 (omega (arith, o.0)) in
-    subst (λ s. StandsAt n p j (unwrap_or s j)) (sym at) (record { next_is = matched_next n p o j h; pin_is = matched_pin n p o j h }))
+pub stands_at : (n : Net) → Bounded n → (p : List ℕ) → length p ≡ n.counts.flops → (j f : ℕ) → f ≡ unwrap_or (slice_get p j) j
+    → StandsAt n p j f
+stands_at n b p l j f e = subst (StandsAt n p j) (sym e) (⊎_elim (λ h.
+    subst (λ s. StandsAt n p j (unwrap_or s j)) (sym (slice_get-get_or p j 0 (omega arith)))
+    (record { next_is = matched_next n p l j h; pin_is = matched_pin n p l j h }))
     (λ h.
-    let past = slice_get_past p j (omega (arith, o.0)) in
-    subst (λ s. StandsAt n p j (unwrap_or s j)) (sym past)
-    (record { next_is = matched_next_past n p o j b h; pin_is = matched_pin_past n p o j b h }))
-    (cases_lt j n.counts.flops)
+    subst (λ s. StandsAt n p j (unwrap_or s j)) (sym (slice_get_past p j (omega arith)))
+    (record { next_is = matched_next_past n p l j b h; pin_is = matched_pin_past n p l j b h }))
+    (cases_lt j n.counts.flops))

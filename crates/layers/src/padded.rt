@@ -103,6 +103,7 @@ impl<'a, 'd, C: Circuit> Padded<'a, 'd, C> {
         x + 2 * self.dummies.len() as u32
     }
 
+    #[tactic(auto, using(crate::proofs::Pads::lookup_found))]
     // The dummy that flop j is, if it is one.
     fn dummy(&self, j: u32) -> Option<Dummy>
         ensures { Found (C.Circuit.meaning self.now.below.now) self.now.dummies.now j result }
