@@ -8,8 +8,6 @@ pub mod CycleValues
 pub mod Layouts
 pub mod HeldInWords
 pub mod Renumbering
-pub mod PaddedPlaces
 pub mod Paddings
 pub mod Orders
 pub mod Matchings
-pub mod MatchedPlaces

@@ -7,13 +7,13 @@ use Rattle.std.proofs.lemmas.List.FromFn.{fill_by_all, take-map-range_with_len}
 use Rattle.std.proofs.ByRecursion.{All-append, All-map, All-weaker}
 use Rattle.std.proofs.lemmas.List.{append_assoc, get_or_append_left, length-append, length-map, map-append, take-append-drop}
 use Rattle.std.proofs.lemmas.Bool.{cond_both, cond-false, cond-true, le-leb, lt-leb}
+use Rattle.std.proofs.lemmas.Grind.{common_steps}
 use Rattle.circuits.specs.declared.counts.Counts.{Counts}
 use Rattle.circuits.specs.declared.dummy.Dummy.{Dummy}
 use Rattle.circuits.specs.Net.{Net, Bounded, top, gate_at, gate_literal, first, before, value, values}
 use Rattle.circuits.specs.Renumbered.{renumbered, both_renumbered}
 use Rattle.circuits.specs.Padded.{moved_up, padded, Fitting, PaddingLaws}
 use Rattle.circuits.proofs.NetsBefore.{length_before}
-use Rattle.circuits.proofs.PaddedPlaces.{padded_gate}
 use Rattle.circuits.proofs.Renumbering.{Agree, same_values}
 
 abbrev Fits : Counts → Dummy → Type 0
@@ -26,6 +26,9 @@ Fitting-prop c ds = Prim.hlevel props
 renumbered_le : (c : Counts) (d x : ℕ) → renumbered (moved_up c d) x ≤ x + 2 * d
 renumbered_le c d x =
     cond_both (leb (x / 2) (c.inputs + c.flops)) (x / 2) (x / 2 + d) (λ v. 2 * v + x % 2 ≤ x + 2 * d) (λ _. omega arith) (λ _. omega arith)
+
+padded_gate : (n : Net) (ds : List Dummy) (i : ℕ) → gate_at (padded n ds) i ≡ both_renumbered (moved_up n.counts (length ds)) (gate_at n i)
+padded_gate n ds i = grind (arith, common_steps)
 
 pub padded_bounded : (n : Net) (ds : List Dummy) → Bounded n → Fitting n.counts ds → Bounded (padded n ds)
 padded_bounded n ds b f =

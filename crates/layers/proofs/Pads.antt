@@ -1,22 +1,21 @@
 -- What the checks of dummies say, and what a padding answers for a flop.
-use Rattle.std.proofs.Common.{◌≡◌, ℕ, ◌+◌, ◌-◌, ◌<◌, ◌≤◌, false, ◌⊎◌, List, [], ◌∷◌, length, get_or, Some, None, Option, Ok, Bor, sym, ap, ◌∙◌, inr, arith}
+use Rattle.std.proofs.Common.{◌≡◌, ℕ, ◌+◌, ◌-◌, ◌≤◌, false, List, [], ◌∷◌, ◌++◌, map, length, get_or, Some, None, Ok, Option, Bor, sym, arith}
 use Rattle.std.specs.List.{AllByRecursion}
 use Rattle.std.specs.Option.{option_copied}
 use Rattle.std.specs.Slice.{IsItemAt}
 use Rattle.std.proofs.ByRecursion.{All-get_or}
 use Rattle.std.proofs.lemmas.Bool.{ltb-false, le-ltb}
+use Rattle.std.proofs.lemmas.Grind.{common_steps}
 use Rattle.circuits.specs.declared.counts.Counts.{Counts}
 use Rattle.circuits.specs.declared.dummy.Dummy.{Dummy}
 use Rattle.circuits.specs.Checks.{Check, unless_due}
 use Rattle.circuits.specs.Net.{Net, Bounded, top}
-use Rattle.circuits.specs.Padded.{Fitting, moved_up}
-use Rattle.circuits.specs.Renumbered.{renumbered}
+use Rattle.circuits.specs.Padded.{Fitting}
 use Rattle.circuits.proofs.Checking.{all_passed, none_due, none_from_ok}
 use Rattle.circuits.proofs.Lookups.{next_low}
-use Rattle.circuits.proofs.PaddedPlaces.{padded_next_other, padded_pin_other, padded_next_dummy, padded_pin_dummy}
 use Rattle.layers.specs.declared.fault.PadFault.{PadFault}
 use Rattle.layers.specs.Padding.{each_checked, pad_checks, PadsFitting}
-use Rattle.layers.specs.PaddedAnswers.{AnsweredBelow, AnsweredBy, Found}
+use Rattle.layers.specs.PaddedAnswers.{Found}
 
 abbrev Passed : List (Check PadFault) → Type 0
 Passed = AllByRecursion (λ c. c.1 ≡ false)
@@ -44,28 +43,19 @@ pads_fitting c ds = (
 pub passed_fits : (c : Counts) (ds : List Dummy) → Ok (tt {0}) ≡ unless_due (pad_checks c ds) (tt {0}) → Fitting c ds
 passed_fits c ds e = ((pads_fitting c ds).0 (none_from_ok (pad_checks c ds) (tt {0}) (tt {0}) (sym e))).1
 
-module _ (n : Net) (b : Bounded n) (ds : List Dummy) (fits : Fitting n.counts ds) (j : ℕ) where
-  answered_below : (j < n.counts.flops) ⊎ (n.counts.flops + length ds ≤ j) → AnsweredBelow n ds j
-  answered_below h = record {
-    next_is = record { is = padded_next_other n ds j b h; low = next_low n b j };
-    pin_is = padded_pin_other n ds j b h;
+-- what is looked up past the own flops
+module _ (n : Net) (b : Bounded n) (ds : List Dummy) (fits : Fitting n.counts ds) (j : ℕ) (past : n.counts.flops ≤ j) where
+  pub lookup_found : (o : Option (Bor Dummy)) → IsItemAt ds (j - n.counts.flops) o → Found n ds j (option_copied o)
+  lookup_found None at = record {
+    next_is = record { is = grind (arith, common_steps, b.nexts_are); low = next_low n b j };
+    pin_is = grind (arith, common_steps, b.pins_are);
   }
-
-  answered_by : (d : Dummy) → n.counts.flops ≤ j → j - n.counts.flops < length ds → d ≡ get_or ds (j - n.counts.flops) d → AnsweredBy n ds j d
-  answered_by d h k e =
-      let f = All-get_or (Fits n.counts) ds (j - n.counts.flops) d k fits.1 in
-      let next = ap (λ (x : Dummy). x.next) e in
-      let pin = ap (λ (x : Dummy). x.pin) e in
+  lookup_found (Some d) at =
+      let fit = All-get_or (Fits n.counts) ds (j - n.counts.flops) d.now at.3.0 fits.1 in
+      let same = at.3.1 d.now in
+      let next : get_or (n.nexts ++ map (λ d. d.next) ds) j 0 ≡ d.now.next = grind (arith, common_steps, b.nexts_are) in
       record {
-        next_is = record {
-          is = padded_next_dummy n ds j d b h k ∙ ap (renumbered (moved_up n.counts (length ds))) (sym next);
-          low = omega (arith, f.0);
-        };
-        pin_is = padded_pin_dummy n ds j d b h k ∙ sym pin;
-        is_pin = omega (arith, f.1);
+        next_is = record { is = grind (arith, common_steps); low = grind arith };
+        pin_is = grind (arith, common_steps, b.pins_are);
+        is_pin = grind arith;
       }
-
-  -- what is looked up past the own flops
-  pub lookup_found : n.counts.flops ≤ j → (o : Option (Bor Dummy)) → IsItemAt ds (j - n.counts.flops) o → Found n ds j (option_copied o)
-  lookup_found h None at = answered_below (inr (omega (arith, at.3)))
-  lookup_found h (Some d) at = answered_by d.now h at.3.0 (at.3.1 d.now)

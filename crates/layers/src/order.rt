@@ -22,7 +22,7 @@ pub(crate) struct Order<'p> {
     ghost placed: { PlacesOf flops.now places },
 }
 
-// The place of each flop that is named; of any other, a place too.
+// A place for each flop: one that is named stands there.
 fn places_in(flops: &[u32]) -> [u32; FLOPS]
     requires { length flops.now ≤ 256 }
     ensures { Placed flops.now result }
@@ -36,7 +36,7 @@ fn places_in(flops: &[u32]) -> [u32; FLOPS]
     places
 }
 
-// Judges whether each flop stands at its place.
+// Judges whether each flop is named: one that is stands at the place that is kept for it.
 fn judge_flops(flops: &[u32], places: &[u32; FLOPS]) -> Result<(), MatchFault>
     requires { (length flops.now ≤ 256) × Placed flops.now places.now }
     ensures answer { result ≡ unless_due (map (flop_check flops.now) (range_with_len 0 (length flops.now))) tt }
@@ -53,8 +53,8 @@ fn judge_flops(flops: &[u32], places: &[u32; FLOPS]) -> Result<(), MatchFault>
 }
 
 impl<'p> Order<'p> {
-    #[tactic(auto, using(crate::proofs::Matches::matches_orders))]
     // This order for so many flops, or why it is none: the length is judged first, then each flop.
+    #[tactic(auto, using(crate::proofs::Matches::matches_orders))]
     pub(crate) fn new(flops: &'p [u32], count: u32) -> Result<Order<'p>, MatchFault>
         requires { count ≤ 256 }
         ensures answer { meant (λ order. order.flops.now) result ≡ unless_due (match_checks count flops.now) flops.now }

@@ -17,7 +17,7 @@ use circuits::pin::Pin;
 
 pub const MOST_DUMMIES: usize = 16;
 
-// The circuit below with a flop for each lent dummy.
+// The circuit below with a flop for each lent dummy. The dummies fit it, so no answer judges them again.
 #[derive(Drop)]
 pub struct Padded<'a, 'd, C: Circuit> {
     below: &'a C,
@@ -103,8 +103,8 @@ impl<'a, 'd, C: Circuit> Padded<'a, 'd, C> {
         x + 2 * self.dummies.len() as u32
     }
 
-    #[tactic(auto, using(crate::proofs::Pads::lookup_found))]
     // The dummy that flop j is, if it is one.
+    #[tactic(auto, using(crate::proofs::Pads::lookup_found))]
     fn dummy(&self, j: u32) -> Option<Dummy>
         ensures { Found (C.Circuit.meaning self.now.below.now) self.now.dummies.now j result }
     {
