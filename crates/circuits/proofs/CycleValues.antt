@@ -1,18 +1,17 @@
 -- What the values of a cycle say of each net.
-use Rattle.std.proofs.Common.{◌≡◌, ℕ, zero, suc, ◌+◌, ◌-◌, ◌*◌, ◌/◌, ◌%◌, ◌<◌, Bool, false, not, ◌&&◌, List, [], ◌∷◌, ◌++◌, length, get_or, sym, refl, ap, ◌∙◌, subst, ap₂, arith}
+use Rattle.std.proofs.Common.{◌≡◌, ℕ, zero, suc, ◌+◌, ◌-◌, ◌*◌, ◌/◌, ◌<◌, Bool, false, ◌&&◌, List, [], ◌∷◌, ◌++◌, length, get_or, sym, refl, ap, ◌∙◌, subst, ap₂, arith}
 use Rattle.std.proofs.lemmas.List.FromFn.{length-map-range_with_len, get_or-map-range_with_len}
 use Rattle.std.proofs.lemmas.List.{append_assoc, get_or_append_left, get_or-append_right, get_or-append-add, length-append, length-map, length_push}
-use Rattle.circuits.specs.Net.{Net, Bounded, first, turned, before, value, gate_values, values, Cycles}
+use Rattle.std.proofs.lemmas.Grind.{common_steps}
+use Rattle.circuits.specs.Net.{Net, Bounded, first, before, value, gate_values, values, Cycles}
 
 -- a literal of a net that stands in the front has its value there
 front_value : (nets more : List Bool) (x : ℕ) → x / 2 < length nets → value nets x ≡ value (nets ++ more) x
-front_value nets more x h = ap (turned not (x % 2)) (sym (get_or_append_left nets more false (x / 2) h))
+front_value nets more x h = grind (arith, common_steps)
 
 -- an even literal is its net
 even_value : (nets : List Bool) (v : ℕ) → value nets (2 * v) ≡ get_or nets v false
-even_value nets v =
-    let r : 2 * v % 2 ≡ 0 = omega arith in let q : 2 * v / 2 ≡ v = omega arith in
-    ap (λ m. turned not m (get_or nets (2 * v / 2) false)) r ∙ ap (λ m. get_or nets m false) q
+even_value nets v = grind (arith, common_steps)
 
 length_gates : (gs : List (ℕ × ℕ)) (nets : List Bool) → length (gate_values gs nets) ≡ length gs
 length_gates [] nets = refl

@@ -1,17 +1,15 @@
 -- What is looked up in a bounded circuit is within the bounds, past the ends too.
-use Rattle.std.proofs.Common.{ℕ, ◌≤◌, sym, subst, ⊎_elim, arith}
-use Rattle.std.proofs.lemmas.List.{get_or_past}
-use Rattle.std.proofs.lemmas.Bool.{cases_lt}
+use Rattle.std.proofs.Common.{ℕ, ◌≤◌, arith}
+use Rattle.std.proofs.lemmas.Grind.{common_steps}
 use Rattle.circuits.specs.Net.{Net, Bounded, top, gate_at, next_at, pin_at, out_at}
 use Rattle.circuits.proofs.Mapped.{any_get_or}
 
 module _ (n : Net) (b : Bounded n) where
   pub gate_low : (i : ℕ) → ((gate_at n i).0 ≤ top n.counts) × ((gate_at n i).1 ≤ top n.counts)
-  gate_low i =
-      ⊎_elim (λ h. let o = b.operands_in i h in let l = o.0 in let r = o.1 in (omega arith, omega arith))
-      (λ h. subst (λ (g : ℕ × ℕ). (g.0 ≤ top n.counts) × (g.1 ≤ top n.counts))
-      (sym (get_or_past n.operands i (0, 0) (omega (arith, b.operands_are)))) (omega arith, omega arith))
-      (cases_lt i n.counts.gates)
+  gate_low i = (
+    grind (arith, common_steps, b.operands_are, b.operands_in i),
+    grind (arith, common_steps, b.operands_are, b.operands_in i),
+  )
 
   pub next_low : (j : ℕ) → next_at n j ≤ top n.counts
   next_low = any_get_or (λ x. x ≤ top n.counts) n.nexts 0 (omega arith) b.nexts_in

@@ -1,11 +1,9 @@
 -- Lists under a map, and what is read from a list at any place.
-use Rattle.std.proofs.Common.{◌≡◌, ℕ, zero, suc, List, [], ◌∷◌, map, length, get_or, sym, refl, ap, ◌∙◌, subst, ⊎_elim}
+use Rattle.std.proofs.Common.{◌≡◌, ℕ, zero, suc, List, [], ◌∷◌, map, get_or, sym, refl, ap, ◌∙◌}
 use mathlib.Core.Path.{fun_ext}
 use mathlib.Core.List.{map-map}
 use Rattle.std.specs.List.{AllByRecursion}
-use Rattle.std.proofs.ByRecursion.{All-get_or}
-use Rattle.std.proofs.lemmas.List.{get_or_past, map-id}
-use Rattle.std.proofs.lemmas.Bool.{cases_lt}
+use Rattle.std.proofs.lemmas.List.{map-id}
 
 -- two maps that come to a third
 pub map_twice : {X Y Z : Type 0} (f : X → Z) (g : Y → Z) (h : X → Y) → ((x : X) → g (h x) ≡ f x) → (xs : List X) → map g (map h xs) ≡ map f xs
@@ -23,5 +21,6 @@ get_or_mapped f d e z (x ∷ xs) (suc i) = get_or_mapped f d e z xs i
 
 -- what holds of the default and of each element is so at any place
 pub any_get_or : {X : Type 0} (P : X → Type 0) (xs : List X) (d : X) → P d → AllByRecursion P xs → (i : ℕ) → P (get_or xs i d)
-any_get_or P xs d z a i =
-    ⊎_elim (λ h. All-get_or P xs i d h a) (λ h. subst P (sym (get_or_past xs i d h)) z) (cases_lt i (length xs))
+any_get_or P [] d z a i = z
+any_get_or P (x ∷ xs) d z a zero = a.0
+any_get_or P (x ∷ xs) d z a (suc i) = any_get_or P xs d z a.1 i

@@ -1,8 +1,9 @@
 -- Matched circuits: their bounds, what a cycle gives, and the way back.
-use Rattle.std.proofs.Common.{◌≡◌, ℕ, ◌+◌, ◌-◌, ◌*◌, ◌/◌, ◌%◌, ◌<◌, ◌≤◌, Bool, false, ltb, ◌⊎◌, List, map, length, get_or, sym, refl, ap, ◌∙◌, subst, ap₂, inl, inr, ⊎_elim, arith}
+use Rattle.std.proofs.Common.{◌≡◌, ℕ, ◌+◌, ◌-◌, ◌*◌, ◌/◌, ◌%◌, ◌<◌, ◌≤◌, Bool, false, ◌⊎◌, List, map, length, get_or, sym, refl, ap, ◌∙◌, subst, ap₂, inl, inr, ⊎_elim, arith}
 use Rattle.std.proofs.ByRecursion.{All-map, All-weaker, All-from_get_or}
 use Rattle.std.proofs.lemmas.List.{length-map, get_or-map, ext_get_or}
-use Rattle.std.proofs.lemmas.Bool.{cases_lt, cond-true, cond-false, and_from, and_left, and_right, lt-ltb, le-ltb, le-leb, lt-leb}
+use Rattle.std.proofs.lemmas.Bool.{cases_lt}
+use Rattle.std.proofs.lemmas.Bool.Decides.{nat_tests}
 use Rattle.circuits.specs.declared.counts.Counts.{Counts}
 use Rattle.circuits.specs.Net.{Net, Bounded, top, gate_at, gate_literal, next_at, pin_at, before, value, values}
 use Rattle.circuits.specs.Renumbered.{renumbered, both_renumbered}
@@ -27,21 +28,14 @@ module _ (c : Counts) where
       (λ a. other v (inl a)) (cases_lt c.inputs v)
 
   pub moved_flop : (to : ℕ → ℕ) (f : ℕ) → f < c.flops → flops_moved c to (1 + c.inputs + f) ≡ 1 + c.inputs + to f
-  moved_flop to f h =
-      let v : ℕ = 1 + c.inputs + f in
-      let e : v - (1 + c.inputs) ≡ f = omega arith in
-      cond-true _ _ v (and_from _ _ (lt-ltb c.inputs v (omega arith)) (le-leb v (c.inputs + c.flops) (omega arith)))
-      ∙ ap (λ k. 1 + c.inputs + to k) e
+  moved_flop to f h = grind (arith, nat_tests)
 
   pub moved_other : (to : ℕ → ℕ) (v : ℕ) → Other v → flops_moved c to v ≡ v
-  moved_other to v o =
-      cond-false _ _ v (⊎_elim (λ a. and_left (ltb c.inputs v) _ (le-ltb c.inputs v a))
-      (λ a. and_right (ltb c.inputs v) _ (lt-leb v (c.inputs + c.flops) a)) o)
+  moved_other to v o = grind (arith, nat_tests)
 
   module _ (to : ℕ → ℕ) (low : (f : ℕ) → f < c.flops → to f < c.flops) where
     pub moved_below : (b : ℕ) → c.inputs + c.flops < b → (v : ℕ) → v < b → flops_moved c to v < b
-    moved_below b h = each_net (λ v. v < b → flops_moved c to v < b)
-        (λ f l _. omega (arith, moved_flop to f l, low f l)) (λ v o k. omega (arith, moved_other to v o))
+    moved_below b h v k = grind (arith, nat_tests, low (v - (1 + c.inputs)))
 
     renumbered_below : (b : ℕ) → c.inputs + c.flops < b → (x : ℕ) → x < 2 * b → renumbered (flops_moved c to) x < 2 * b
     renumbered_below b h x l = omega (arith, moved_below b h (x / 2) (omega arith))

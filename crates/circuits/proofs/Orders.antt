@@ -1,24 +1,20 @@
 -- Orders and the places in them: an order names each flop once, and so does its inverse.
-use Rattle.std.proofs.Common.{◌≡◌, ℕ, zero, suc, ◌<◌, ◌≤◌, cond, eqb, ◌⊎◌, List, [], ◌∷◌, length, get_or, sym, refl, ap, ◌∙◌, inl, inr, ⊎_elim, arith}
+use Rattle.std.proofs.Common.{◌≡◌, ℕ, zero, suc, ◌<◌, ◌≤◌, cond, eqb, ◌⊎◌, List, [], ◌∷◌, length, get_or, sym, ap, ◌∙◌, ⊎_elim, arith}
 use Rattle.std.proofs.lemmas.List.FromFn.{length-map-range_with_len, get_or-map-range_with_len}
-use Rattle.std.proofs.lemmas.Bool.{eqb-true, eqb-false, cases_eq, cond_both}
+use Rattle.std.proofs.lemmas.Bool.{cases_eq}
+use Rattle.std.proofs.lemmas.Bool.Decides.{nat_tests}
 use Rattle.circuits.specs.Matched.{place, InSomeOrder, inverse}
 
 -- what stands at the place of f is f
 pub at_place : (p : List ℕ) (f d : ℕ) → place p f < length p → get_or p (place p f) d ≡ f
-at_place [] f d h = absurd (omega arith)
-at_place (g ∷ p) f d h =
-    cond_both (eqb g f) 0 (suc (place p f)) (λ k. k < suc (length p) → get_or (g ∷ p) k d ≡ f)
-    (λ e _. eqb-true g f e) (λ _ k. at_place p f d (omega arith)) h
+at_place [] f d h = grind arith
+at_place (g ∷ p) f d h = grind (arith, nat_tests, at_place p f d)
 
 -- a place is never past an entry that is f
 pub place_le : (p : List ℕ) (f j d : ℕ) → j < length p → get_or p j d ≡ f → place p f ≤ j
-place_le [] f j d h e = absurd (omega arith)
-place_le (g ∷ p) f zero d h e =
-    cond_both (eqb g f) 0 (suc (place p f)) (λ k. k ≤ 0) (λ _. omega arith) (λ ne. absurd (eqb-false g f ne e))
-place_le (g ∷ p) f (suc j) d h e =
-    cond_both (eqb g f) 0 (suc (place p f)) (λ k. k ≤ suc j) (λ _. omega arith)
-    (λ _. let l = place_le p f j d (omega arith) e in omega arith)
+place_le [] f j d h e = grind arith
+place_le (g ∷ p) f zero d h e = grind (arith, nat_tests)
+place_le (g ∷ p) f (suc j) d h e = grind (arith, nat_tests, place_le p f j d)
 
 -- x, with m in the place of l
 put : ℕ → ℕ → ℕ → ℕ
@@ -26,9 +22,7 @@ put l m x = cond (eqb x l) m x
 
 put_is : (l m x : ℕ) → ((x ≡ l) × (put l m x ≡ m)) ⊎ ((x ≡ l → ⊥) × (put l m x ≡ x))
 unfolding put
-put_is l m x =
-    cond_both (eqb x l) m x (λ y. ((x ≡ l) × (y ≡ m)) ⊎ ((x ≡ l → ⊥) × (y ≡ x)))
-    (λ e. inl (eqb-true x l e, refl)) (λ e. inr (eqb-false x l e, refl))
+put_is l m x = grind (arith, nat_tests)
 
 -- a one-to-one map of 0 to l - 1 into itself meets each number
 pub each_met : (l : ℕ) (g : ℕ → ℕ) → ((f : ℕ) → f < l → g f < l) → ((f h : ℕ) → f < l → h < l → g f ≡ g h → f ≡ h)

@@ -1,13 +1,14 @@
 -- What padding keeps: the bounds, and what a cycle gives.
-use Rattle.std.proofs.Common.{◌≡◌, ℕ, ◌+◌, ◌*◌, ◌/◌, ◌%◌, ◌<◌, ◌≤◌, Bool, false, leb, List, [], ◌∷◌, ◌++◌, map, length, get_or, take, drop, sym, refl, ap, ◌∙◌, subst, ap₂, arith}
+use Rattle.std.proofs.Common.{◌≡◌, ℕ, ◌+◌, ◌*◌, ◌<◌, ◌≤◌, Bool, false, leb, List, [], ◌∷◌, ◌++◌, map, length, get_or, take, drop, sym, refl, ap, ◌∙◌, subst, ap₂, arith}
 use mathlib.Core.List.{map-map}
 use Rattle.std.proofs.Props.{props}
 use Rattle.std.specs.List.{AllByRecursion}
 use Rattle.std.proofs.lemmas.List.FromFn.{fill_by_all, take-map-range_with_len}
 use Rattle.std.proofs.ByRecursion.{All-append, All-map, All-weaker}
 use Rattle.std.proofs.lemmas.List.{append_assoc, get_or_append_left, length-append, length-map, map-append, take-append-drop}
-use Rattle.std.proofs.lemmas.Bool.{cond_both, cond-false, cond-true, le-leb, lt-leb}
+use Rattle.std.proofs.lemmas.Bool.{cond-false, cond-true, le-leb, lt-leb}
 use Rattle.std.proofs.lemmas.Grind.{common_steps}
+use Rattle.std.proofs.lemmas.Bool.Decides.{nat_tests}
 use Rattle.circuits.specs.declared.counts.Counts.{Counts}
 use Rattle.circuits.specs.declared.dummy.Dummy.{Dummy}
 use Rattle.circuits.specs.Net.{Net, Bounded, top, gate_at, gate_literal, first, before, value, values}
@@ -24,8 +25,7 @@ pub Fitting-prop : (c : Counts) (ds : List Dummy) → IsProp (Fitting c ds)
 Fitting-prop c ds = Prim.hlevel props
 
 renumbered_le : (c : Counts) (d x : ℕ) → renumbered (moved_up c d) x ≤ x + 2 * d
-renumbered_le c d x =
-    cond_both (leb (x / 2) (c.inputs + c.flops)) (x / 2) (x / 2 + d) (λ v. 2 * v + x % 2 ≤ x + 2 * d) (λ _. omega arith) (λ _. omega arith)
+renumbered_le c d x = grind (arith, nat_tests)
 
 padded_gate : (n : Net) (ds : List Dummy) (i : ℕ) → gate_at (padded n ds) i ≡ both_renumbered (moved_up n.counts (length ds)) (gate_at n i)
 padded_gate n ds i = grind (arith, common_steps)
