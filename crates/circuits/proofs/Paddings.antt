@@ -17,7 +17,8 @@ use Rattle.circuits.specs.Padded.{moved_up, padded, Fitting, PaddingLaws}
 use Rattle.circuits.proofs.NetsBefore.{length_before}
 use Rattle.circuits.proofs.Renumbering.{Agree, same_values}
 
-abbrev Fits : Counts → Dummy → Type 0
+-- one dummy that fits
+abbrev pub Fits : Counts → Dummy → Type 0
 Fits c d = (d.next ≤ top c) × (d.pin ≤ 2)
 
 -- dummies fit in one way, so that a struct may keep the fact

@@ -1,10 +1,8 @@
 -- What the checks of an order say, and what passes them.
-use Rattle.std.proofs.Common.{◌≡◌, ℕ, suc, ◌+◌, ◌-◌, ◌<◌, ◌≤◌, eqb, leb, false, List, ◌∷◌, map, length, get_or, Ok, Err, Result, sym, refl, ap, ◌∙◌, subst, arith}
-use Rattle.std.specs.List.{range_with_len, slice_get}
+use Rattle.std.proofs.Common.{◌≡◌, ℕ, zero, suc, ◌+◌, ◌-◌, ◌<◌, ◌≤◌, false, List, ◌∷◌, map, length, get_or, Ok, Err, Result, sym, refl, ap, ◌∙◌, arith}
+use Rattle.std.specs.List.{range_with_len, slice_get, AllByRecursion}
 use Rattle.std.specs.Option.{unwrap_or}
-use Rattle.std.proofs.ByRecursion.{All-map, All-get_or, All-from_get_or}
-use Rattle.std.proofs.lemmas.List.FromFn.{length-map-range_with_len, length-range_with_len, get_or-range_with_len, get_or-map-range_with_len}
-use Rattle.std.proofs.lemmas.Bool.{eq-eqb, eqb-true, leb-false, lt-leb, not-false, not_from_true}
+use Rattle.std.proofs.lemmas.Bool.Decides.{nat_tests}
 use Rattle.std.proofs.lemmas.Grind.{common_steps}
 use Rattle.std.proofs.lemmas.Option.{gets}
 use Rattle.circuits.specs.Checks.{Check, unless_due}
@@ -17,6 +15,9 @@ use Rattle.layers.specs.declared.fault.MatchFault.TheVariants.{Unmatched}
 use Rattle.layers.specs.Matching.{flop_check, match_checks, MatchesOrders}
 use Rattle.layers.specs.MatchedAnswers.{StandsAt}
 use Rattle.layers.specs.Orders.{Placed, PlacesOf}
+
+abbrev Passed : List (Check MatchFault) → Type 0
+Passed = AllByRecursion (λ c. c.1 ≡ false)
 
 -- the places after the first j entries of p
 pub record PlacedTo (p places : List ℕ) (j : ℕ) : Type 0 where
@@ -54,38 +55,32 @@ module _ (p : List ℕ) (l k : ℕ) (h : k < l) where
   pub flop_refused : length p ≤ place p k → from_flop k ≡ Err (Unmatched k)
   flop_refused h = opened ∙ grind (arith, common_steps)
 
+-- the checks of n flops from a on pass exactly where each stands in p
+flops_stand : (p : List ℕ) (a n : ℕ) → Passed (map (flop_check p) (range_with_len a n)) → (f : ℕ) → a ≤ f → f < a + n → place p f < length p
+flops_stand p a zero h f l m = absurd (omega arith)
+flops_stand p a (suc n) h f l m = grind (arith, nat_tests, h.0, flops_stand p (a + 1) n h.1 f)
+
+flops_pass : (p : List ℕ) (a n : ℕ) → ((f : ℕ) → a ≤ f → f < a + n → place p f < length p) → Passed (map (flop_check p) (range_with_len a n))
+flops_pass p a zero h = tt
+flops_pass p a (suc n) h = (grind (arith, nat_tests, h a), flops_pass p (a + 1) n (λ f l m. h f (omega arith) (omega arith)))
+
 pub matches_orders : (l : ℕ) (p : List ℕ) → MatchesOrders l p
-matches_orders l p =
-    let lc = length-range_with_len 0 l in
-    let each : (f : ℕ) → f < l → get_or (range_with_len 0 l) f 0 ≡ f = λ f h. get_or-range_with_len 0 l f 0 h ∙ omega arith in (
-      (λ e.
-          let a = all_passed (match_checks l p) e in
-          let n : length p ≡ l = eqb-true (length p) l (not-false _ a.0) in (
-            n,
-            λ f h.
-                let t = All-get_or (λ (c : Check MatchFault). c.1 ≡ false) (map (flop_check p) (range_with_len 0 l)) f (flop_check p f)
-                (omega (arith, length-map-range_with_len (flop_check p) 0 l)) a.1 in
-                let d : get_or (map (flop_check p) (range_with_len 0 l)) f (flop_check p f) ≡ flop_check p f
-                = get_or-map-range_with_len (flop_check p) 0 l f f (flop_check p f) h (omega arith) in
-                let k = leb-false (length p) (place p f) (ap (λ (c : Check MatchFault). c.1) (sym d) ∙ t) in omega arith,
-          )),
-      (λ o.
-          let n = o.0 in
-          none_due (match_checks l p) (
-            not_from_true (eqb (length p) l) (eq-eqb (length p) l n),
-            All-map (λ (c : Check MatchFault). c.1 ≡ false) (flop_check p) (range_with_len 0 l)
-                (All-from_get_or (λ f. leb (length p) (place p f) ≡ false) (range_with_len 0 l) 0 (λ i h.
-                let k : i < l = omega arith in
-                let m = o.1 i k in
-                subst (λ (f : ℕ). leb (length p) (place p f) ≡ false) (sym (each i k)) (lt-leb (length p) (place p i) (omega arith)))),
-          )),
-    )
+matches_orders l p = (
+  (λ e.
+      let a = all_passed (match_checks l p) e in
+      let n : length p ≡ l = grind (arith, nat_tests, a.0) in
+      (n, λ f h. omega (arith, flops_stand p 0 l a.1 f (omega arith) (omega arith)))),
+  (λ o.
+      let n = o.0 in
+      none_due (match_checks l p) (grind (arith, nat_tests), flops_pass p 0 l (λ f _ h. omega (arith, o.1 f (omega arith))))),
+)
 
 -- where each flop passes, they are in some order
 pub passed_orders : (p : List ℕ) → Ok (tt {0}) ≡ unless_due (map (flop_check p) (range_with_len 0 (length p))) (tt {0}) → InSomeOrder (length p) p
 passed_orders p e =
-    let flops = none_from_ok (map (flop_check p) (range_with_len 0 (length p))) (tt {0}) (tt {0}) (sym e) in
-    (matches_orders (length p) p).0 (rw (eq-eqb (length p) (length p) refl) flops)
+    let flops = map (flop_check p) (range_with_len 0 (length p)) in
+    let a = all_passed flops (none_from_ok flops (tt {0}) (tt {0}) (sym e)) in
+    (refl, λ f h. flops_stand p 0 (length p) a f (omega arith) (omega arith))
 
 -- which flop stands at j, and past the last flop j itself
 pub stands_at : (n : Net) (b : Bounded n) (p : List ℕ) → length p ≡ n.counts.flops → (j : ℕ) → StandsAt n p j (unwrap_or (slice_get p j) j)

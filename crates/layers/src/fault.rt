@@ -1,5 +1,5 @@
 // Why a layer cannot be put over a circuit.
-ghost use Rattle.std.specs.Prelude.{◌≡◌, Some};
+ghost use Rattle.std.specs.Prelude.{Some};
 ghost use Rattle.layers.specs.Faults.{pad_number, told_pad, match_number, told_match};
 
 use circuits::numbered::Numbered;

@@ -1,5 +1,5 @@
 // The order of a circuit's flops.
-ghost use Rattle.std.specs.Prelude.{◌≡◌, ◌<◌, ◌≤◌, [], ◌∷◌, map, length, slice_get, OnOk};
+ghost use Rattle.std.specs.Prelude.{◌≡◌, ◌<◌, ◌≤◌, map, length, slice_get, OnOk};
 ghost use Rattle.std.specs.List.{range_with_len};
 ghost use Rattle.circuits.specs.Checks.{unless_due};
 ghost use Rattle.circuits.specs.Matched.{place, InSomeOrder};
@@ -38,7 +38,8 @@ fn places_in(flops: &[u32]) -> [u32; FLOPS]
 
 // Judges whether each flop is named: one that is stands at the place that is kept for it.
 fn judge_flops(flops: &[u32], places: &[u32; FLOPS]) -> Result<(), MatchFault>
-    requires { (length flops.now ≤ 256) × Placed flops.now places.now }
+    requires few { length flops.now ≤ 256 }
+    requires placed { Placed flops.now places.now }
     ensures answer { result ≡ unless_due (map (flop_check flops.now) (range_with_len 0 (length flops.now))) tt }
     ensures ordered { OnOk result (InSomeOrder (length flops.now) flops.now) }
     ensures placed { OnOk result (PlacesOf flops.now places.now) }

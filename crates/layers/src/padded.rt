@@ -1,7 +1,7 @@
 // A circuit with dummy flops after its own.
-ghost use Rattle.std.specs.Prelude.{◌≡◌, ◌+◌, ◌≤◌, length, OnOk};
+ghost use Rattle.std.specs.Prelude.{◌≡◌, ◌≤◌, length, OnOk};
 ghost use Rattle.circuits.specs.Checks.{unless_due};
-ghost use Rattle.circuits.specs.Net.{BoundedCounts, next_at, pin_at, top};
+ghost use Rattle.circuits.specs.Net.{top};
 ghost use Rattle.circuits.specs.Renumbered.{renumbered};
 ghost use Rattle.circuits.specs.Padded.{padded, Fitting, moved_up, PaddingLaws};
 ghost use Rattle.circuits.proofs.Paddings.{Fitting-prop, padded_bounded};
@@ -104,7 +104,7 @@ impl<'a, 'd, C: Circuit> Padded<'a, 'd, C> {
     }
 
     // The dummy that flop j is, if it is one.
-    #[tactic(auto, using(crate::proofs::Pads::lookup_found))]
+    #[tactic(auto, using(crate::proofs::Pads::own_found, crate::proofs::Pads::lookup_found))]
     fn dummy(&self, j: u32) -> Option<Dummy>
         ensures { Found (C.Circuit.meaning self.now.below.now) self.now.dummies.now j result }
     {

@@ -11,7 +11,7 @@ pub returns-then-flops-place-clause-answer : goal.returns-then-flops-place-claus
 returns-then-flops-place-clause-answer c =
     let p = c.args.flops.now in
     let f = c.loop-flop.flop in
-    let stands = named_stands p c.args.places.now c.requires.1 f in
+    let stands = named_stands p c.args.places.now c.requires.placed f in
     let refused = flop_refused p (length p) f in
     grind (arith, common_steps)
 
@@ -19,7 +19,7 @@ pub loop-flop-preserved : goal.loop-flop-preserved
 loop-flop-preserved c =
     let p = c.args.flops.now in
     let f = c.loop-flop.flop in
-    let named = flop_named p c.args.places.now c.requires.1 f in
+    let named = flop_named p c.args.places.now c.requires.placed f in
     let passed = flop_passed p (length p) f in
     grind (arith, common_steps)
 
@@ -31,4 +31,4 @@ returns c =
     let done : length p - c.loop-flop.flop ≡ 0 = omega arith in
     let passed = sym (c.loop-flop.invariant ∙ ap (λ m. unless_due (map (flop_check p) (range_with_len c.loop-flop.flop m)) (tt {0})) done) in
     let o = passed_orders p passed in
-    record { answer = passed; ordered = o; placed = places_of p places (omega arith) c.requires.1 o }
+    record { answer = passed; ordered = o; placed = places_of p places (omega arith) c.requires.placed o }
