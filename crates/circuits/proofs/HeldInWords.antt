@@ -1,15 +1,18 @@
--- Words that are well laid hold a circuit, and words that hold a circuit are well laid.
+-- Words hold the circuit that is read off by place, where it is bounded, and no other.
 use Rattle.std.proofs.Common.{◌≡◌, ℕ, zero, suc, ◌+◌, ◌*◌, ◌<◌, ◌≤◌, List, [], ◌∷◌, ◌++◌, map, length, get_or, take, drop, sym, refl, ap, ◌∙◌, subst, arith}
-use Rattle.std.specs.List.{range_with_len, AllByRecursion}
+use Rattle.std.proofs.Props.{props}
+use Rattle.std.specs.List.{range_with_len}
 use Rattle.std.proofs.lemmas.List.FromFn.{length-map-range_with_len, get_or-map-range_with_len}
-use Rattle.std.proofs.ByRecursion.{All-from_get_or, All-get_or}
 use Rattle.std.proofs.lemmas.List.{append_assoc, ext_get_or, get_or-append-add, get_or_append_left, get_or-drop, get_or_past, get_or-take, length-append, length-drop, length-take, drop-drop, drop_more, drop-take, take-append-drop, take-take}
 use Rattle.circuits.specs.declared.counts.Counts.{Counts}
-use Rattle.circuits.specs.Net.{Net, Bounded, gate_literal, layout, operand_words, room, top}
-use Rattle.circuits.specs.Held.{Holds, WellLaid, net_in, pairs_in, row_in}
-use Rattle.circuits.proofs.Bounds.{in_bounds_from, in_bounds_parts}
+use Rattle.circuits.specs.Net.{Net, Bounded, layout, operand_words, room}
+use Rattle.circuits.specs.Held.{Holds, net_in, pairs_in, row_in}
 use Rattle.circuits.proofs.Layouts.{two_each, room_taken}
 use Rattle.circuits.proofs.Nets.{same_net}
+
+-- that a circuit is bounded is one fact, so a struct can keep it
+pub bounded_once : (n : Net) → IsProp (Bounded n)
+bounded_once n = Prim.hlevel props
 
 -- a list that is made by place
 module _ {X : Type 0} (f : ℕ → X) (n : ℕ) where
@@ -19,50 +22,11 @@ module _ {X : Type 0} (f : ℕ → X) (n : ℕ) where
   pub made_past : (k : ℕ) (d : X) → n ≤ k → d ≡ get_or (map f (range_with_len 0 n)) k d
   made_past k d h = sym (get_or_past (map f (range_with_len 0 n)) k d (omega (arith, length-map-range_with_len f 0 n)))
 
-  made_keeps : (P : X → Type 0) (d : X) → ((k : ℕ) → k < n → P (f k)) → AllByRecursion P (map f (range_with_len 0 n))
-  made_keeps P d h =
-      All-from_get_or P (map f (range_with_len 0 n)) d (λ k l.
-      let l' : k < n = omega (arith, length-map-range_with_len f 0 n) in subst P (made_at k d l') (h k l'))
-
-  made_kept : (P : X → Type 0) (d : X) → AllByRecursion P (map f (range_with_len 0 n)) → (k : ℕ) → k < n → P (f k)
-  made_kept P d a k l =
-      subst P (sym (made_at k d l)) (All-get_or P (map f (range_with_len 0 n)) k d (omega (arith, length-map-range_with_len f 0 n)) a)
-
   -- is any list with these elements
-  made_is : (xs : List X) (d : X) → length xs ≡ n → ((k : ℕ) → k < n → f k ≡ get_or xs k d) → map f (range_with_len 0 n) ≡ xs
+  pub made_is : (xs : List X) (d : X) → length xs ≡ n → ((k : ℕ) → k < n → f k ≡ get_or xs k d) → map f (range_with_len 0 n) ≡ xs
   made_is xs d e h =
       ext_get_or d (map f (range_with_len 0 n)) xs (length-map-range_with_len f 0 n ∙ sym e) (λ k l.
       let l' : k < n = omega (arith, length-map-range_with_len f 0 n) in sym (made_at k d l') ∙ h k l')
-
-module _ (c : Counts) (words : List ℕ) where
-  pub held_bounded : WellLaid c words → Bounded (net_in c words)
-  held_bounded w =
-      let pair : ℕ → ℕ × ℕ = λ i. (get_or words (2 * i) 0, get_or words (2 * i + 1) 0) in
-      record {
-        counts_in = in_bounds_parts c w.0;
-        operands_are = length-map-range_with_len pair 0 c.gates;
-        nexts_are = length-map-range_with_len (λ j. get_or words (2 * c.gates + j) 0) 0 c.flops;
-        pins_are = length-map-range_with_len (λ j. get_or words (2 * c.gates + c.flops + j) 0) 0 c.flops;
-        outs_are = length-map-range_with_len (λ j. get_or words (2 * c.gates + 2 * c.flops + j) 0) 0 c.outputs;
-        operands_in = λ i h.
-            subst (λ (g : ℕ × ℕ). (g.0 < gate_literal c i) × (g.1 < gate_literal c i)) (made_at pair c.gates i (0, 0) h) (w.2 i h);
-        nexts_in = made_keeps (λ j. get_or words (2 * c.gates + j) 0) c.flops (λ x. x ≤ top c) 0 w.3.0;
-        pins_in = made_keeps (λ j. get_or words (2 * c.gates + c.flops + j) 0) c.flops (λ x. x ≤ 2) 0 w.3.1;
-        outs_in = made_keeps (λ j. get_or words (2 * c.gates + 2 * c.flops + j) 0) c.outputs (λ x. x ≤ top c) 0 w.3.2;
-      }
-
-  well_from : room c ≤ length words → Bounded (net_in c words) → WellLaid c words
-  well_from h b =
-      let pair : ℕ → ℕ × ℕ = λ i. (get_or words (2 * i) 0, get_or words (2 * i + 1) 0) in (
-        in_bounds_from c b.counts_in,
-        h,
-        (λ i l. subst (λ (g : ℕ × ℕ). (g.0 < gate_literal c i) × (g.1 < gate_literal c i)) (sym (made_at pair c.gates i (0, 0) l)) (b.operands_in i l)),
-        (
-          made_kept (λ j. get_or words (2 * c.gates + j) 0) c.flops (λ x. x ≤ top c) 0 b.nexts_in,
-          made_kept (λ j. get_or words (2 * c.gates + c.flops + j) 0) c.flops (λ x. x ≤ 2) 0 b.pins_in,
-          made_kept (λ j. get_or words (2 * c.gates + 2 * c.flops + j) 0) c.outputs (λ x. x ≤ top c) 0 b.outs_in,
-        ),
-      )
 
 -- the operands of gate i stand in words 2i and 2i + 1
 pair_words : (gs : List (ℕ × ℕ)) (later : List ℕ) (i : ℕ) → i < length gs
@@ -111,7 +75,7 @@ net_in_layout n later b =
     same_net (net_in c ws) n refl gates nexts pins outs
 
 -- the words of a row and of pairs are a part of all
-row_words : (words : List ℕ) (from count : ℕ) → from + count ≤ length words → row_in from count words ≡ take count (drop from words)
+pub row_words : (words : List ℕ) (from count : ℕ) → from + count ≤ length words → row_in from count words ≡ take count (drop from words)
 row_words words from count h =
     let l = length-take count (drop from words) in let l' = length-drop from words in
     made_is (λ k. get_or words (from + k) 0) count (take count (drop from words)) 0 (omega arith) (λ k i.
@@ -158,11 +122,11 @@ module _ (c : Counts) (words : List ℕ) where
       let laid : words ≡ layout n ++ drop (room c) words = sym (take-append-drop (room c) words) ∙ ap (λ w. w ++ drop (room c) words) h.laid in
       ap (λ d. net_in d words) (sym h.counted) ∙ ap (net_in n.counts) laid ∙ net_in_layout n (drop (room c) words) h.bounded
 
-  pub holds_well : (n : Net) → Holds c words n → WellLaid c words
-  holds_well n h =
+  pub holds_bounded : (n : Net) → Holds c words n → (room c ≤ length words) × Bounded (net_in c words)
+  holds_bounded n h =
       let t : room n.counts ≡ room c = ap room h.counted in
       let l = room_taken n h.bounded in let e = ap length h.laid in let k = length-take (room c) words in
-      well_from c words (omega arith) (subst Bounded (sym (holds_only n h)) h.bounded)
+      (omega arith, subst Bounded (sym (holds_only n h)) h.bounded)
 
-  pub well_holds : WellLaid c words → Holds c words (net_in c words)
-  well_holds w = record { bounded = held_bounded c words w; counted = refl; laid = laid_front c words w.1 }
+  pub bounded_holds : room c ≤ length words → Bounded (net_in c words) → Holds c words (net_in c words)
+  bounded_holds h b = record { bounded = b; counted = refl; laid = laid_front c words h }

@@ -1,8 +1,8 @@
 -- Circuits held in words.
-use Rattle.std.specs.Prelude.{◌≡◌, ℕ, ◌+◌, ◌*◌, ◌<◌, ◌≤◌, true, List, [], ◌∷◌, map, length, take, slice_index}
+use Rattle.std.specs.Prelude.{◌≡◌, ℕ, ◌+◌, ◌*◌, List, [], ◌∷◌, map, take, slice_index}
 use Rattle.std.specs.List.{range_with_len}
 use Rattle.circuits.specs.declared.counts.Counts.{Counts}
-use Rattle.circuits.specs.Net.{Net, Bounded, in_bounds, top, gate_literal, layout, room}
+use Rattle.circuits.specs.Net.{Net, Bounded, layout, room}
 
 -- the words begin with a bounded circuit of these counts
 pub record Holds (c : Counts) (words : List ℕ) (n : Net) : Type 0 where
@@ -32,22 +32,3 @@ net_in c words = record {
   pins = row_in (2 * c.gates + c.flops) c.flops words;
   outs = row_in (2 * c.gates + 2 * c.flops) c.outputs words;
 }
-
--- the words from a place on, so many of them, are at most m
-abbrev pub AtMost : ℕ → ℕ → ℕ → List ℕ → Type 0
-AtMost m from count words = (k : ℕ) → k < count → slice_index words (from + k) ≤ m
-
--- the operands of each gate are below its own literal
-abbrev pub GatesLow : Counts → List ℕ → Type 0
-GatesLow c words = (i : ℕ) → i < c.gates → (slice_index words (2 * i) < gate_literal c i) × (slice_index words (2 * i + 1) < gate_literal c i)
-
--- next literals, pins and output literals are not too large
-abbrev pub RowsLow : Counts → List ℕ → Type 0
-RowsLow c words =
-    AtMost (top c) (2 * c.gates) c.flops words
-    × AtMost 2 (2 * c.gates + c.flops) c.flops words
-    × AtMost (top c) (2 * c.gates + 2 * c.flops) c.outputs words
-
--- what makes words hold a circuit of these counts, word by word
-abbrev pub WellLaid : Counts → List ℕ → Type 0
-WellLaid c words = (in_bounds c ≡ true) × (room c ≤ length words) × GatesLow c words × RowsLow c words

@@ -3,6 +3,7 @@
 #![tactic(auto)]
 
 pub mod plain;
+mod sections;
 #[cfg(test)]
 mod tests;
 
@@ -11,6 +12,8 @@ pub use aiger::reading::read;
 pub use circuits::circuit::{Circuit, Gate};
 pub use circuits::counts::{Counts, MOST_WORDS};
 pub use circuits::dummy::Dummy;
+pub use circuits::numbered::Numbered;
+pub use circuits::pin::{NoPin, Pin};
 pub use layers::fault::{MatchFault, PadFault};
 pub use layers::matched::Matched;
 pub use layers::padded::Padded;
