@@ -13,7 +13,7 @@ use circuits::pin::Pin;
 
 // A circuit of given counts, held in lent words: the operands of each gate, the next literals, the pins, the output literals. Later words
 // are not looked at.
-#[derive(Clone, Copy)]
+#[derive(Clone, Copy, Debug, PartialEq, Eq)]
 pub struct Plain<'a> {
     sections: Sections<'a>,
     ghost bounded: { Bounded (net_of sections) } by { bounded_once (net_of sections) },

@@ -7,7 +7,7 @@ ghost use Rattle.netlists.specs.Plain.{SomeHeld};
 use circuits::counts::Counts;
 
 // The operands of each gate, the next literals, the pins and the output literals, as many as the counts say.
-#[derive(Clone, Copy)]
+#[derive(Clone, Copy, Debug, PartialEq, Eq)]
 pub struct Sections<'a> {
     pub counts: Counts,
     pub operands: &'a [[u32; 2]],

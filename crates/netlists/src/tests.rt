@@ -56,15 +56,14 @@ fn a_word_too_large_or_missing_is_not(rt: HostRuntime) {
 
 #[test]
 fn words_are_checked(rt: HostRuntime) {
-    let pins = [
-        Plain::checked(SMALL, &[5, 5, 7, 0, 7]),
-        Plain::checked(SMALL, &[5, 5, 7, 1, 7]),
-    ];
+    let words = [5, 5, 7, 1, 7];
+    let pin = Plain::checked(SMALL, &words).map(|plain| plain.pin(0));
+    assert_eq!(rt; pin, Some(Pin::One));
     assert_eq!(rt;
-        pins.map(|plain| plain.map(|plain| plain.pin(0))),
-        [Some(Pin::Zero), Some(Pin::One)]
+        Plain::checked(SMALL, &words),
+        Some(Plain::new(SMALL, &words))
     );
-    assert!(rt; Plain::checked(SMALL, &[5, 5, 7, 3, 7]).is_none());
+    assert_eq!(rt; Plain::checked(SMALL, &[5, 5, 7, 3, 7]), None);
 }
 
 #[test]
