@@ -3,7 +3,7 @@ use Rattle.std.proofs.Common.{◌≡◌, ℕ, zero, suc, ◌+◌, ◌*◌, ◌<�
 use Rattle.std.proofs.Props.{props}
 use Rattle.std.specs.List.{range_with_len}
 use Rattle.std.proofs.lemmas.List.FromFn.{length-map-range_with_len, get_or-map-range_with_len}
-use Rattle.std.proofs.lemmas.List.{append_assoc, ext_get_or, get_or-append-add, get_or_append_left, get_or-drop, get_or_past, get_or-take, length-append, length-drop, length-take, drop-drop, drop_more, drop-take, take-append-drop, take-take}
+use Rattle.std.proofs.lemmas.List.{append_assoc, ext_get_or, get_or-append-add, get_or_append_left, get_or-drop, get_or-take, length-append, length-drop, length-take, drop-drop, drop_more, drop-take, take-append-drop, take-take}
 use Rattle.circuits.specs.declared.counts.Counts.{Counts}
 use Rattle.circuits.specs.Net.{Net, Bounded, layout, operand_words, room}
 use Rattle.circuits.specs.Held.{Holds, net_in, pairs_in, row_in}
@@ -14,19 +14,13 @@ use Rattle.circuits.proofs.Nets.{same_net}
 pub bounded_once : (n : Net) → IsProp (Bounded n)
 bounded_once n = Prim.hlevel props
 
--- a list that is made by place
-module _ {X : Type 0} (f : ℕ → X) (n : ℕ) where
-  pub made_at : (k : ℕ) (d : X) → k < n → f k ≡ get_or (map f (range_with_len 0 n)) k d
-  made_at k d h = sym (get_or-map-range_with_len f 0 n k k d h (omega arith))
-
-  pub made_past : (k : ℕ) (d : X) → n ≤ k → d ≡ get_or (map f (range_with_len 0 n)) k d
-  made_past k d h = sym (get_or_past (map f (range_with_len 0 n)) k d (omega (arith, length-map-range_with_len f 0 n)))
-
-  -- is any list with these elements
-  pub made_is : (xs : List X) (d : X) → length xs ≡ n → ((k : ℕ) → k < n → f k ≡ get_or xs k d) → map f (range_with_len 0 n) ≡ xs
-  made_is xs d e h =
-      ext_get_or d (map f (range_with_len 0 n)) xs (length-map-range_with_len f 0 n ∙ sym e) (λ k l.
-      let l' : k < n = omega (arith, length-map-range_with_len f 0 n) in sym (made_at k d l') ∙ h k l')
+-- a list that is made by place is any list with the same elements
+pub made_is : {X : Type 0} (f : ℕ → X) (n : ℕ) (xs : List X) (d : X) → length xs ≡ n → ((k : ℕ) → k < n → f k ≡ get_or xs k d)
+    → map f (range_with_len 0 n) ≡ xs
+made_is f n xs d e h =
+    ext_get_or d (map f (range_with_len 0 n)) xs (length-map-range_with_len f 0 n ∙ sym e) (λ k l.
+    let in_range : k < n = omega (arith, length-map-range_with_len f 0 n) in
+    get_or-map-range_with_len f 0 n k k d in_range (omega arith) ∙ h k in_range)
 
 -- the operands of gate i stand in words 2i and 2i + 1
 pair_words : (gs : List (ℕ × ℕ)) (later : List ℕ) (i : ℕ) → i < length gs

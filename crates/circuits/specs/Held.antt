@@ -14,7 +14,7 @@ pub record Holds (c : Counts) (words : List ℕ) (n : Net) : Type 0 where
 abbrev pub blank : Net
 blank = record { counts = record { inputs = 0; flops = 0; gates = 0; outputs = 1 }; operands = []; nexts = []; pins = []; outs = 0 ∷ [] }
 
--- The same word by word, as code sees it.
+-- The same word by word.
 
 -- so many words from a place on, and as many pairs of words from the front
 abbrev pub row_in : ℕ → ℕ → List ℕ → List ℕ

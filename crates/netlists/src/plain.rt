@@ -1,5 +1,5 @@
 // A circuit in lent words.
-ghost use Rattle.std.specs.Prelude.{◌↔◌, ◌≡◌, ◌+◌, ◌*◌, ◌≤◌, IsTrue, IsSome, IfSome};
+ghost use Rattle.std.specs.Prelude.{◌↔◌, ◌≡◌, IsTrue, IsSome, IfSome};
 ghost use Rattle.circuits.specs.Net.{Bounded};
 ghost use Rattle.circuits.specs.Held.{Holds, blank};
 ghost use Rattle.netlists.specs.Plain.{SomeHeld, StandsFor};

@@ -1,6 +1,6 @@
 // Lent words, cut into the parts of a circuit.
-ghost use Rattle.std.specs.Prelude.{◌↔◌, ◌≡◌, ◌+◌, ◌*◌, ◌≤◌, ◌<◌, ℕ, length, IsTrue, IsSome, IfSome, IfNone, All};
-ghost use Rattle.circuits.specs.Net.{Bounded, room, top, gate_literal};
+ghost use Rattle.std.specs.Prelude.{◌↔◌, ◌≡◌, ◌≤◌, length, IsTrue, IfSome, IfNone, All};
+ghost use Rattle.circuits.specs.Net.{Bounded};
 ghost use Rattle.circuits.specs.Held.{Holds, net_in};
 ghost use Rattle.netlists.specs.Plain.{SomeHeld};
 
@@ -30,11 +30,11 @@ fn at_most(row: &[u32], limit: u64) -> bool
 impl<'a> Sections<'a> {
     ghost use Rattle.netlists.specs.Sections.{net_of, OperandsLow};
 
-    // The first words, where there are enough of them.
+    // The first words, where there are enough of them. They hold a circuit of these counts where the sections keep all bounds.
     pub fn cut(counts: Counts, words: &'a [u32]) -> Option<Sections<'a>>
         ensures by_place { IfSome result (λ s. net_of s ≡ net_in counts words.now) }
         ensures held { IfSome result (λ s. Bounded (net_of s) → Holds counts words.now (net_of s)) }
-        ensures only { IfSome result (λ s. SomeHeld counts words.now → Bounded (net_of s)) }
+        ensures bounded { IfSome result (λ s. SomeHeld counts words.now → Bounded (net_of s)) }
         ensures too_few { IfNone result (¬ SomeHeld counts words.now) }
     {
         if counts.room() > words.len() as u64 {
