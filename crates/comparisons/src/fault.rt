@@ -1,8 +1,12 @@
 // Why two circuits cannot be compared by a rule.
-ghost use Rattle.std.specs.Prelude.{◌≡◌};
+ghost use Rattle.std.specs.Prelude.{◌≡◌, Some};
 ghost use Rattle.comparisons.specs.Faults as spec;
 
-#[derive(Clone, Copy)]
+use circuits::numbered::Numbered;
+use std::error::Error;
+use std::fmt;
+
+#[derive(Clone, Copy, Debug, PartialEq, Eq)]
 pub enum OpenFault {
     // the circuits differ in the number of inputs, flops or outputs
     SizesDiffer,
@@ -14,11 +18,11 @@ pub enum OpenFault {
     ManyVariables,
 }
 
-impl OpenFault {
-    // The number by which users know the refusal.
-    pub fn number(self) -> u32
-        ensures { result ≡ spec.open_number self }
-    {
+// The number by which users know the refusal.
+impl Numbered for OpenFault {
+    ghost number_of = { spec.open_number };
+
+    fn number(&self) -> u32 {
         match self {
             OpenFault::SizesDiffer => 10,
             OpenFault::OutsideTable => 11,
@@ -27,3 +31,18 @@ impl OpenFault {
         }
     }
 }
+
+impl fmt::Display for OpenFault {
+    ghost output = { λ fault. Some (spec.told_fault fault) };
+
+    fn fmt<W: fmt::Write>(&self, f: &mut fmt::Formatter<W>) -> fmt::Result {
+        f.write_str(match self {
+            OpenFault::SizesDiffer => "sizes",
+            OpenFault::OutsideTable => "rule or depths",
+            OpenFault::PinsDiffer => "pins",
+            OpenFault::ManyVariables => "variables",
+        })
+    }
+}
+
+impl Error for OpenFault {}

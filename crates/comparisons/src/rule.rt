@@ -1,9 +1,12 @@
 // The rules by which two circuits are shown to be equal for ever.
-ghost use Rattle.std.specs.Prelude.{◌≡◌};
-ghost use Rattle.comparisons.specs.Opening as spec;
+ghost use Rattle.std.specs.Prelude.{◌≡◌, ok_or};
+ghost use Rattle.comparisons.specs.Opening.{rule_of};
+ghost use Rattle.comparisons.specs.declared.fault.OpenFault.TheVariants.{OutsideTable};
+
+use crate::fault::OpenFault;
 
 // Each is named by the start states of which its verdict speaks.
-#[derive(Clone, Copy)]
+#[derive(Clone, Copy, Debug, PartialEq, Eq)]
 pub enum Rule {
     // all states
     Everywhere,
@@ -15,17 +18,19 @@ pub enum Rule {
     AfterGated,
 }
 
-impl Rule {
-    // The rule that users know by this number.
-    pub fn of(number: u32) -> Option<Rule>
-        ensures { result ≡ spec.rule_of number }
-    {
+// The rule that users know by a number.
+impl TryFrom<u32> for Rule {
+    type Error = OpenFault;
+
+    ghost try_from_gives = { λ number rule. rule ≡ ok_or (rule_of number) OutsideTable };
+
+    fn try_from(number: u32) -> Result<Rule, OpenFault> {
         match number {
-            1 => Some(Rule::Everywhere),
-            2 => Some(Rule::AfterOriginal),
-            3 => Some(Rule::FromPins),
-            4 => Some(Rule::AfterGated),
-            _ => None,
+            1 => Ok(Rule::Everywhere),
+            2 => Ok(Rule::AfterOriginal),
+            3 => Ok(Rule::FromPins),
+            4 => Ok(Rule::AfterGated),
+            _ => Err(OpenFault::OutsideTable),
         }
     }
 }
