@@ -1,79 +1,77 @@
 -- The gates of a row, counted by cycle.
-use Rattle.std.proofs.Common.{◌≡◌, ℕ, zero, suc, ◌+◌, ◌-◌, ◌*◌, ◌/◌, ◌%◌, ◌<◌, ◌≤◌, ltb, leb, sym, ap, ◌∙◌, subst, ⊎_elim, mul-le-mul_left, mul-zero, arith}
+use Rattle.std.proofs.Common.{◌≡◌, ℕ, zero, suc, ◌+◌, ◌-◌, ◌*◌, ◌/◌, ◌%◌, ◌<◌, ◌≤◌, min, ltb, sym, ap, ◌∙◌, subst, mul-zero, arith}
 use Rattle.std.proofs.lemmas.Nat.{div-add-mod', div_below, mod_below}
-use Rattle.std.proofs.lemmas.Bool.{cases_lt, cond-true, cond-false, le-leb, lt-leb, lt-ltb, le-ltb}
-use Rattle.clauses.specs.declared.shape.Span.{Span}
-use Rattle.clauses.specs.Shapes.{Short, gates_before, gates_in, Spots}
+use Rattle.std.proofs.lemmas.Bool.{cond-true, cond-false, lt-ltb, le-ltb}
+use Rattle.clauses.specs.declared.plan.Half.{Half}
+use Rattle.clauses.specs.declared.plan.Half.TheVariants.{Left, Right}
+use Rattle.clauses.specs.declared.plan.Row.{Row}
+use Rattle.clauses.specs.declared.shape.Shape.{Shape}
+use Rattle.clauses.specs.Plans.{other_side, half_row}
+use Rattle.clauses.specs.Shapes.{gates_on, gates_in, gates_in_row, Spots}
 
 -- below a product, the factor is not zero
-pub factor : (g m k : ℕ) → g < m * k → 0 < k
+factor : (g m k : ℕ) → g < m * k → 0 < k
 factor g m zero l = absurd (omega (arith, mul-zero m))
 factor g m (suc k) l = omega arith
 
-module _ (s : Span) (t : ℕ) where
-  pub before_front : t ≤ s.turn → gates_before s t ≡ t * s.front
-  before_front l = cond-true (leb t s.turn) (t * s.front) (s.turn * s.front + (t - s.turn) * s.back) (le-leb t s.turn l)
+pub turns : (s : Shape) (half : Half) → (half_row s.plan half).turn ≤ s.plan.cycles
+turns s Left = s.in_time.left_turns
+turns s Right = s.in_time.right_turns
 
-  pub before_back : s.turn ≤ t → gates_before s t ≡ s.turn * s.front + (t - s.turn) * s.back
-  before_back l =
-      ⊎_elim
-      (λ (h : s.turn < t). cond-false (leb t s.turn) (t * s.front) (s.turn * s.front + (t - s.turn) * s.back) (lt-leb t s.turn h))
-      (λ (h : t ≤ s.turn).
-      let e : t ≡ s.turn = omega arith in
-      let z : t - s.turn ≡ 0 = omega arith in
-      let none : (t - s.turn) * s.back ≡ 0 = ap (λ m. m * s.back) z ∙ omega arith in
-      let same : t * s.front ≡ s.turn * s.front = ap (λ m. m * s.front) e in
-      before_front h ∙ omega arith)
-      (cases_lt s.turn t)
+-- so many gates, where there are `front` in each cycle before the turn, and `back` in each from then on
+module _ (front back turn t : ℕ) where
+  pub before_turn : t ≤ turn → min t turn * front + (t - turn) * back ≡ t * front
+  before_turn l =
+      let e : min t turn ≡ t = omega arith in
+      let z : t - turn ≡ 0 = omega arith in
+      rw (e, z) (omega arith)
 
-  pub in_front : t < s.turn → gates_in s t ≡ s.front
-  in_front l = cond-true (ltb t s.turn) s.front s.back (lt-ltb t s.turn l)
+  pub from_turn : turn ≤ t → min t turn * front + (t - turn) * back ≡ turn * front + (t - turn) * back
+  from_turn l = let e : min t turn ≡ turn = omega arith in rw e
 
-  pub in_back : s.turn ≤ t → gates_in s t ≡ s.back
-  in_back l = cond-false (ltb t s.turn) s.front s.back (le-ltb t s.turn l)
+module _ (s : Shape) (half : Half) where
+  abbrev r : Row
+  r = half_row s.plan half
 
-  -- no more than 8,192 a cycle
-  pub few_fronts : Short s → t * s.front ≤ t * 8192
-  few_fronts b = mul-le-mul_left t b.few_front
+  abbrev front : ℕ
+  front = gates_on s r.front
 
-  pub few_both : Short s → s.turn ≤ t → s.turn * s.front + (t - s.turn) * s.back ≤ t * 8192
-  few_both b l =
-      let f = mul-le-mul_left s.turn b.few_front in
-      let k = mul-le-mul_left (t - s.turn) b.few_back in
-      omega arith
+  abbrev back : ℕ
+  back = gates_on s (other_side r.front)
 
-pub few_before : (s : Span) → Short s → (t : ℕ) → gates_before s t ≤ t * 8192
-few_before s b t =
-    ⊎_elim
-    (λ (h : s.turn < t). subst (λ m. m ≤ t * 8192) (sym (before_back s t (omega arith))) (few_both s t b (omega arith)))
-    (λ (h : t ≤ s.turn). subst (λ m. m ≤ t * 8192) (sym (before_front s t h)) (few_fronts s t b))
-    (cases_lt s.turn t)
+  in_front : (t : ℕ) → t < r.turn → gates_in s half t ≡ front
+  in_front t l = ap (gates_on s) (cond-true (ltb t r.turn) r.front (other_side r.front) (lt-ltb t r.turn l))
 
--- gate g stands in a cycle before the turn, or after it
-pub spot_front : (s : Span) (cycles g : ℕ) → s.turn ≤ cycles → g < s.turn * s.front → Spots s cycles g (record { cycle = g / s.front; at = g % s.front })
-spot_front s cycles g l b =
-    let some = factor g s.turn s.front b in
-    let early : g / s.front < s.turn = div_below g s.front s.turn some b in
-    record {
-      in_row = omega arith;
-      in_cycle = subst (λ m. g % s.front < m) (sym (in_front s (g / s.front) early)) (mod_below g s.front some);
-      is = ap (λ m. m + g % s.front) (before_front s (g / s.front) (omega arith)) ∙ div-add-mod' g s.front;
-    }
+  in_back : (t : ℕ) → r.turn ≤ t → gates_in s half t ≡ back
+  in_back t l = ap (gates_on s) (cond-false (ltb t r.turn) r.front (other_side r.front) (le-ltb t r.turn l))
 
-pub spot_back : (s : Span) (cycles g : ℕ) → s.turn ≤ cycles → s.turn * s.front ≤ g → g < gates_before s cycles
-    → Spots s cycles g (record { cycle = s.turn + (g - s.turn * s.front) / s.back; at = (g - s.turn * s.front) % s.back })
-spot_back s cycles g l b h =
-    let rest = g - s.turn * s.front in
-    let whole = before_back s cycles l in
-    let low : rest < (cycles - s.turn) * s.back = omega arith in
-    let some = factor rest (cycles - s.turn) s.back low in
-    let early : rest / s.back < cycles - s.turn = div_below rest s.back (cycles - s.turn) some low in
-    let t = s.turn + rest / s.back in
-    let d : t - s.turn ≡ rest / s.back = omega arith in
-    let e : (t - s.turn) * s.back ≡ rest / s.back * s.back = ap (λ m. m * s.back) d in
-    let parts = div-add-mod' rest s.back in
-    record {
-      in_row = omega arith;
-      in_cycle = subst (λ m. rest % s.back < m) (sym (in_back s t (omega arith))) (mod_below rest s.back some);
-      is = ap (λ m. m + rest % s.back) (before_back s t (omega arith)) ∙ omega arith;
-    }
+  -- gate g stands in a cycle before the turn, or after it
+  pub spot_front : (g : ℕ) → g < r.turn * front → Spots s half g (record { cycle = g / front; at = g % front })
+  spot_front g b =
+      let some = factor g r.turn front b in
+      let early : g / front < r.turn = div_below g front r.turn some b in
+      let turned = turns s half in
+      record {
+        in_row = omega arith;
+        in_cycle = subst (λ m. g % front < m) (sym (in_front (g / front) early)) (mod_below g front some);
+        is = ap (λ m. m + g % front) (before_turn front back r.turn (g / front) (omega arith)) ∙ div-add-mod' g front;
+      }
+
+  pub spot_back : (g : ℕ) → r.turn * front ≤ g → g < gates_in_row s half
+      → Spots s half g (record { cycle = r.turn + (g - r.turn * front) / back; at = (g - r.turn * front) % back })
+  spot_back g b h =
+      let rest = g - r.turn * front in
+      let turned = turns s half in
+      let whole = from_turn front back r.turn s.plan.cycles turned in
+      let low : rest < (s.plan.cycles - r.turn) * back = omega arith in
+      let some = factor rest (s.plan.cycles - r.turn) back low in
+      let early : rest / back < s.plan.cycles - r.turn = div_below rest back (s.plan.cycles - r.turn) some low in
+      let t = r.turn + rest / back in
+      let d : t - r.turn ≡ rest / back = omega arith in
+      let e : (t - r.turn) * back ≡ rest / back * back = ap (λ m. m * back) d in
+      let parts = div-add-mod' rest back in
+      record {
+        in_row = omega arith;
+        in_cycle = subst (λ m. rest % back < m) (sym (in_back t (omega arith))) (mod_below rest back some);
+        is = ap (λ m. m + rest % back) (from_turn front back r.turn t (omega arith)) ∙ omega arith;
+      }

@@ -1,4 +1,3 @@
 pub mod Plans
 pub mod Shapes
-pub mod Fixed
 pub mod Asked

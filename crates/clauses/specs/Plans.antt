@@ -1,5 +1,5 @@
 -- Plans: which circuit runs in which cycle of a comparison.
-use Rattle.std.specs.Prelude.{ℕ, ◌+◌, ◌-◌, Bool, true, false, cond, ◌&&◌, List, [], ◌∷◌, nat_le, nat_lt}
+use Rattle.std.specs.Prelude.{ℕ, ◌+◌, ◌-◌, ◌≤◌, Bool, true, false, cond, ◌&&◌, List, [], ◌∷◌, nat_le, nat_lt}
 use Rattle.circuits.specs.Net.{Net}
 use Rattle.comparisons.specs.declared.rule.Rule.{Rule}
 use Rattle.comparisons.specs.declared.rule.Rule.TheVariants.{Everywhere, AfterOriginal, FromPins, AfterGated}
@@ -21,9 +21,13 @@ other_side Gated = Original
 abbrev pub side_at : Row → ℕ → Side
 side_at r t = cond (nat_lt t r.turn) r.front (other_side r.front)
 
+-- a row of a plan, and the circuit that runs there in cycle t
+abbrev pub half_row : Plan → Half → Row
+half_row p Left = p.left
+half_row p Right = p.right
+
 abbrev pub side_in : Plan → Half → ℕ → Side
-side_in p Left t = side_at p.left t
-side_in p Right t = side_at p.right t
+side_in p half t = side_at (half_row p half) t
 
 -- the plans of a rule, in order
 abbrev pub against_original : ℕ → Row → Bool → Plan
@@ -55,8 +59,7 @@ module _ (a b : Net) where
 
   -- either row
   abbrev pub half_of : Plan → Half → List Net
-  half_of p Left = left_of p
-  half_of p Right = right_of p
+  half_of p half = row_of (half_row p half) p.cycles
 
   -- the start bits that a plan fixes
   abbrev pub fixed_by : Plan → List ℕ
@@ -65,6 +68,12 @@ module _ (a b : Net) where
 -- rows of 1 to 8 cycles that turn in time
 abbrev pub in_time : Plan → Bool
 in_time p = nat_le 1 p.cycles && (nat_le p.cycles 8 && (nat_le p.left.turn p.cycles && nat_le p.right.turn p.cycles))
+
+pub record InTime (p : Plan) : Type 0 where
+  pub some_cycle : 1 ≤ p.cycles
+  pub few_cycles : p.cycles ≤ 8
+  pub left_turns : p.left.turn ≤ p.cycles
+  pub right_turns : p.right.turn ≤ p.cycles
 
 abbrev pub no_formula : Formula
 no_formula = record { variables = 0; given = [] }

@@ -1,34 +1,32 @@
 // The start bits that the pins of a circuit fix.
-ghost use Rattle.std.specs.Prelude.{◌≡◌, ◌≤◌, length, slice_index};
-ghost use Rattle.clauses.specs.Fixed.{bits_fixed};
+ghost use Rattle.std.specs.Prelude.{◌≡◌, ℕ, ◌≤◌, List, length, take};
 
 use circuits::counts::MOST_FLOPS;
+use std::marker::Model;
 
 const FLOPS: usize = MOST_FLOPS as usize;
 
-// The literals of the bits, in order; those past `count` mean nothing.
-#[derive(Clone, Copy)]
+// The literals of the bits, in order.
+#[derive(Drop)]
 pub struct Fixed {
+    // those past `count` mean nothing
     literals: [u32; FLOPS],
-    count: u32,
+    count: usize,
+}
+
+impl Model for Fixed {
+    ghost Value = { List ℕ };
+
+    ghost view = { λ f. take f.count f.literals };
+
+    ghost invariant = { λ f. f.count ≤ 256 };
 }
 
 impl Fixed {
-    pub(crate) fn len(&self) -> u32
-        ensures is { result ≡ length (bits_fixed self.now.literals self.now.count) }
-        ensures few { result ≤ 256 }
+    pub(crate) fn literals(&self) -> &[u32]
+        ensures is { result.now ≡ self.now }
+        ensures few { length result.now ≤ 256 }
     {
-        self.count.min(MOST_FLOPS)
-    }
-
-    // The literal of bit k; past the end 0.
-    pub(crate) fn literal(&self, k: u32) -> u32
-        ensures { result ≡ slice_index (bits_fixed self.now.literals self.now.count) k }
-    {
-        if k < self.len() {
-            self.literals[k as usize]
-        } else {
-            0
-        }
+        &self.literals[..self.count]
     }
 }

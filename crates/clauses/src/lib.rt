@@ -3,5 +3,7 @@
 
 pub mod comparison;
 pub mod fixed;
+mod literal;
 pub mod plan;
+mod running;
 pub mod shape;

@@ -1,31 +1,31 @@
 // Which circuit runs in which cycle of a comparison.
 ghost use Rattle.std.specs.Prelude.{◌≡◌, ◌+◌, ◌≤◌};
 ghost use Rattle.std.specs.List.{slice_get};
-ghost use Rattle.clauses.specs.Plans.{other_side, side_at, plans};
+ghost use Rattle.clauses.specs.Plans as spec;
 
 use comparisons::rule::Rule;
 
-#[derive(Clone, Copy)]
+#[derive(Clone, Copy, Debug, PartialEq, Eq)]
 pub enum Side {
     Original,
     Gated,
 }
 
 // The two rows of a comparison.
-#[derive(Clone, Copy)]
+#[derive(Clone, Copy, Debug, PartialEq, Eq)]
 pub enum Half {
     Left,
     Right,
 }
 
 // A row runs the circuit of its front for so many cycles, and from then on the other.
-#[derive(Clone, Copy)]
+#[derive(Clone, Copy, Debug, PartialEq, Eq)]
 pub struct Row {
     pub front: Side,
     pub turn: u32,
 }
 
-#[derive(Clone, Copy)]
+#[derive(Clone, Copy, Debug, PartialEq, Eq)]
 pub struct Plan {
     pub cycles: u32,
     pub left: Row,
@@ -35,8 +35,8 @@ pub struct Plan {
 }
 
 impl Side {
-    fn other(self) -> Side
-        ensures { result ≡ other_side self }
+    pub(crate) fn other(self) -> Side
+        ensures { result ≡ spec.other_side self }
     {
         match self {
             Side::Original => Side::Gated,
@@ -48,7 +48,7 @@ impl Side {
 impl Row {
     // The circuit that runs in cycle t.
     pub(crate) fn side(self, t: u32) -> Side
-        ensures { result ≡ side_at self t }
+        ensures { result ≡ spec.side_at self t }
     {
         if t < self.turn {
             self.front
@@ -58,26 +58,50 @@ impl Row {
     }
 }
 
-// A plan whose right row is the original in every cycle.
-fn against_original(cycles: u32, left: Row, pinned: bool) -> Plan
-    ensures { result ≡ Rattle.clauses.specs.Plans.against_original cycles left pinned }
-{
-    let right = Row {
-        front: Side::Original,
-        turn: cycles,
-    };
-    Plan {
-        cycles,
-        left,
-        right,
-        pinned,
+impl Plan {
+    // A plan whose right row is the original in every cycle.
+    fn against_original(cycles: u32, left: Row, pinned: bool) -> Plan
+        ensures { result ≡ spec.against_original cycles left pinned }
+    {
+        let right = Row {
+            front: Side::Original,
+            turn: cycles,
+        };
+        Plan {
+            cycles,
+            left,
+            right,
+            pinned,
+        }
+    }
+
+    pub(crate) fn row(self, half: Half) -> Row
+        ensures { result ≡ spec.half_row self half }
+    {
+        match half {
+            Half::Left => self.left,
+            Half::Right => self.right,
+        }
+    }
+
+    // Rows of 1 to 8 cycles that turn in time.
+    pub(crate) fn in_time(self) -> bool
+        ensures { result ≡ spec.in_time self }
+    {
+        let Plan {
+            cycles,
+            left,
+            right,
+            ..
+        } = self;
+        cycles >= 1 && cycles <= 8 && left.turn <= cycles && right.turn <= cycles
     }
 }
 
 // Comparison i, from 0, of a rule at depths n and k.
 pub(crate) fn plan_of(rule: Rule, n: u32, k: u32, i: u32) -> Option<Plan>
     requires { n + k ≤ 8 }
-    ensures { result ≡ slice_get (plans rule n k) i }
+    ensures { result ≡ slice_get (spec.plans rule n k) i }
 {
     let cycles = n + k;
     let original = Row {
@@ -89,10 +113,10 @@ pub(crate) fn plan_of(rule: Rule, n: u32, k: u32, i: u32) -> Option<Plan>
         turn: n,
     };
     match (rule, i) {
-        (Rule::Everywhere, 0) => Some(against_original(cycles, gated, false)),
-        (Rule::AfterOriginal, 0) => Some(against_original(cycles, original, false)),
-        (Rule::FromPins, 0) => Some(against_original(n, gated, true)),
-        (Rule::FromPins, 1) => Some(against_original(cycles, original, false)),
+        (Rule::Everywhere, 0) => Some(Plan::against_original(cycles, gated, false)),
+        (Rule::AfterOriginal, 0) => Some(Plan::against_original(cycles, original, false)),
+        (Rule::FromPins, 0) => Some(Plan::against_original(n, gated, true)),
+        (Rule::FromPins, 1) => Some(Plan::against_original(cycles, original, false)),
         (Rule::AfterGated, 0) => Some(Plan {
             cycles,
             left: gated,

@@ -1,4 +1,4 @@
-use Rattle.std.proofs.Common.{◌≡◌, ◌≤◌}
+use Rattle.std.proofs.Common.{◌≡◌}
 use Rattle.comparisons.specs.Clauses.{named}
 use Rattle.clauses.specs.Asked.{OfCycle, names_in}
 use Rattle.clauses.proofs.comparison.Comparison.named.Given as goal
@@ -8,8 +8,7 @@ abbrev pub invariant-loop-t : goal.invariant-loop-t
 invariant-loop-t g l =
     let a = g.O.Circuit.meaning l.self.original.now in
     let b = g.G.Circuit.meaning l.self.gated.now in
-    (l.t ≤ l.cycle) × OfCycle a b l.self.plan l.half l.t l.x
-    × (named (names_in a b l.self.plan l.half l.t) l.x ≡ named (names_in a b l.self.plan l.half l.cycle) l.initial.x)
-
-abbrev pub decreases-loop-t : goal.decreases-loop-t
-decreases-loop-t g l = l.t
+    record {
+      of_cycle : OfCycle a b l.self.shape l.half l.t l.x;
+      same : named (names_in a b l.self.shape l.half l.t) l.x ≡ named (names_in a b l.self.shape l.half l.cycle) l.initial.x;
+    }
