@@ -13,7 +13,7 @@ use Rattle.clauses.specs.declared.plan.Half.TheVariants.{Left, Right}
 use Rattle.clauses.specs.declared.shape.Shape.{Shape}
 use Rattle.clauses.specs.Plans.{side_in, left_of, half_of}
 use Rattle.clauses.specs.Shapes.{gates_ahead, gate_variable, own_variable, own_literal, flop_of}
-use Rattle.clauses.specs.Asked.{runs, OfCycle, first_of, names_in}
+use Rattle.clauses.specs.Asked.{Compared, runs, OfCycle, first_of, names_in}
 use Rattle.clauses.proofs.Rows.{Sizes, on_bounded, sized_on, length_half, count_before, runs_is, rows_placed}
 
 -- inversion
@@ -79,7 +79,10 @@ none_named : (t : Bool) (j : ℕ) → ◌≡◌ {A = Option ℕ} (cond t (Some j
 none_named true j e = cc
 none_named false j e = refl
 
-module _ {a b : Net} {s : Shape} (sizes : Sizes a b s) where
+module _ {c : Compared} (sizes : Sizes c) where
+  abbrev s : Shape
+  s = c.shape
+
   abbrev I : ℕ
   I = s.original.inputs
 
@@ -87,28 +90,28 @@ module _ {a b : Net} {s : Shape} (sizes : Sizes a b s) where
   L = s.original.flops
 
   -- the first variable of a gate of a row
-  first_is : (half : Half) → first_of a b s half ≡ 2 + L + s.plan.cycles * I + gates_ahead s half
+  first_is : (half : Half) → first_of c half ≡ 2 + L + s.plan.cycles * I + gates_ahead s half
   first_is Left = let n = ap (λ m. m * I) (length_half sizes Left) in omega arith
   first_is Right =
       let n = ap (λ m. m * I) (length_half sizes Left) in
-      let whole = take_all s.plan.cycles (left_of a b s.plan) (omega (arith, length_half sizes Left)) in
+      let whole = take_all s.plan.cycles (left_of c.original c.gated s.plan) (omega (arith, length_half sizes Left)) in
       let count = ap gate_count (sym whole) ∙ count_before sizes Left s.plan.cycles (omega arith) in omega arith
 
-  pub literal_low : (half : Half) (t x : ℕ) → OfCycle a b s half t x → x ≤ 17409
-  literal_low half t x o = let c = (on_bounded sizes (side_in s.plan half t)).counts_in in omega (arith, c.few_inputs, c.few_flops, c.few_gates)
+  pub literal_low : (half : Half) (t x : ℕ) → OfCycle c half t x → x ≤ 17409
+  literal_low half t x o = let b = (on_bounded sizes (side_in s.plan half t)).counts_in in omega (arith, b.few_inputs, b.few_flops, b.few_gates)
 
   module _ (half : Half) (t : ℕ) (lt : t < s.plan.cycles) where
     abbrev net : Net
-    net = net_at (half_of a b s.plan half) t
+    net = net_at (half_of c.original c.gated s.plan half) t
 
     abbrev held : List ℕ
-    held = flops_at (half_of a b s.plan half) (start I L) (input I L) (first_of a b s half) t
+    held = flops_at (half_of c.original c.gated s.plan half) (start I L) (input I L) (first_of c half) t
 
     abbrev z : ℕ
-    z = cycle_at (half_of a b s.plan half) (start I L) (input I L) (first_of a b s half) t
+    z = cycle_at (half_of c.original c.gated s.plan half) (start I L) (input I L) (first_of c half) t
 
     abbrev Nets : List ℕ
-    Nets = names_in a b s half t
+    Nets = names_in c half t
 
     sized : Sized I L s.original.outputs net
     sized = subst (Sized I L s.original.outputs) (sym (runs_is sizes half t lt)) (sized_on sizes (side_in s.plan half t))
@@ -143,7 +146,7 @@ module _ {a b : Net} {s : Shape} (sizes : Sizes a b s) where
         let b : j < net.counts.flops = omega (arith, sized.flops_are) in
         ap (λ v. get_or Nets v off) e ∙ (nets_named net held (input I L t) z).of_flop j b
 
-    own_gate : (x : ℕ) → I + L < x / 2 → OfCycle a b s half t x → named Nets x ≡ own_literal s half t x
+    own_gate : (x : ℕ) → I + L < x / 2 → OfCycle c half t x → named Nets x ≡ own_literal s half t x
     unfolding names_in
     own_gate x h o =
         let g = x / 2 - (1 + I + L) in
@@ -156,14 +159,14 @@ module _ {a b : Net} {s : Shape} (sizes : Sizes a b s) where
         (ap (λ v. get_or Nets v off) e ∙ (nets_named net held (input I L t) z).of_gate g b) (omega arith)
         ∙ ap (λ m. 2 * m + x % 2) (sym (var_gate s half t (x / 2) h))
 
-    other_than_flop : (x : ℕ) → OfCycle a b s half t x → (x / 2 ≤ I) ⊎ (I + L < x / 2) → named Nets x ≡ own_literal s half t x
+    other_than_flop : (x : ℕ) → OfCycle c half t x → (x / 2 ≤ I) ⊎ (I + L < x / 2) → named Nets x ≡ own_literal s half t x
     other_than_flop x o w =
         ⊎_elim
         (λ (h : x / 2 ≤ I). ⊎_elim (λ (e : 0 < x / 2). own_input x e h) (λ (e : x / 2 ≤ 0). own_off x (omega arith)) (cases_lt 0 (x / 2)))
         (λ (h : I + L < x / 2). own_gate x h o) w
 
     -- what a literal is that names no flop
-    pub own_without_flop : (x : ℕ) → OfCycle a b s half t x → flop_of s x ≡ None → own_literal s half t x ≡ named Nets x
+    pub own_without_flop : (x : ℕ) → OfCycle c half t x → flop_of s x ≡ None → own_literal s half t x ≡ named Nets x
     own_without_flop x o e =
         let no = none_named (ltb I (x / 2) && leb (x / 2) (I + L)) (x / 2 - (1 + I)) e in
         sym (other_than_flop x o
@@ -173,7 +176,7 @@ module _ {a b : Net} {s : Shape} (sizes : Sizes a b s) where
         (cases_lt (I + L) (x / 2))) (λ (h : x / 2 ≤ I). inl h) (cases_lt I (x / 2))))
 
   -- and any literal in cycle 0
-  own_at_0 : (half : Half) (x : ℕ) → OfCycle a b s half 0 x → own_literal s half 0 x ≡ named (names_in a b s half 0) x
+  own_at_0 : (half : Half) (x : ℕ) → OfCycle c half 0 x → own_literal s half 0 x ≡ named (names_in c half 0) x
   own_at_0 half x o =
       let lt : 0 < s.plan.cycles = omega (arith, s.in_time.some_cycle) in
       ⊎_elim
@@ -185,46 +188,46 @@ module _ {a b : Net} {s : Shape} (sizes : Sizes a b s) where
       (λ (h : x / 2 ≤ I). sym (other_than_flop half 0 lt x o (inl h)))
       (cases_lt I (x / 2))
 
-  pub own_at_start : (half : Half) (t x : ℕ) → t ≡ 0 → OfCycle a b s half t x → own_literal s half 0 x ≡ named (names_in a b s half t) x
+  pub own_at_start : (half : Half) (t x : ℕ) → t ≡ 0 → OfCycle c half t x → own_literal s half 0 x ≡ named (names_in c half t) x
   own_at_start half t x e o =
-      own_at_0 half x (subst (λ u. OfCycle a b s half u x) e o) ∙ ap (λ u. named (names_in a b s half u) x) (sym e)
+      own_at_0 half x (subst (λ u. OfCycle c half u x) e o) ∙ ap (λ u. named (names_in c half u) x) (sym e)
 
   -- one cycle down: a flop is what its next literal is there
   flop_later : (half : Half) (t j : ℕ) → t < s.plan.cycles → j < L
-      → get_or (flops_at (half_of a b s.plan half) (start I L) (input I L) (first_of a b s half) (suc t)) j off
-      ≡ named (names_in a b s half t) (next_at (net_at (half_of a b s.plan half) t) j)
+      → get_or (flops_at (half_of c.original c.gated s.plan half) (start I L) (input I L) (first_of c half) (suc t)) j off
+      ≡ named (names_in c half t) (next_at (net_at (half_of c.original c.gated s.plan half) t) j)
   unfolding names_in
   flop_later Left t j l k = (rows_placed sizes []).of_left.flop_later t j (omega (arith, length_half sizes Left)) k
   flop_later Right t j l k = (rows_placed sizes []).of_right.flop_later t j (omega (arith, length_half sizes Right)) k
 
   module _ (half : Half) (t x j : ℕ) where
     abbrev next : ℕ
-    next = next_at (runs a b s half t) j
+    next = next_at (runs c half t) j
 
     down : suc t < s.plan.cycles → flop_of s x ≡ Some j
-        → named (names_in a b s half t) (turned negated (x % 2) next) ≡ named (names_in a b s half (suc t)) x
+        → named (names_in c half t) (turned negated (x % 2) next) ≡ named (names_in c half (suc t)) x
     down lt e =
         let (yes-flop, j-is) = flop_named (ltb I (x / 2) && leb (x / 2) (I + L)) (x / 2 - (1 + I)) j e in
         let (above, within) = and_parts (ltb I (x / 2)) (leb (x / 2) (I + L)) yes-flop in
         let h = ltb-true I (x / 2) above in
         let l = leb-true (x / 2) (I + L) within in
-        named_turned (x % 2) (names_in a b s half t) next
+        named_turned (x % 2) (names_in c half t) next
         ∙ ap (turned negated (x % 2)) (sym (flop_held half (suc t) lt x h l
-        ∙ ap (λ i. get_or (flops_at (half_of a b s.plan half) (start I L) (input I L) (first_of a b s half) (suc t)) i off) j-is
+        ∙ ap (λ i. get_or (flops_at (half_of c.original c.gated s.plan half) (start I L) (input I L) (first_of c half) (suc t)) i off) j-is
         ∙ flop_later half t j (omega arith) (omega arith)
-        ∙ ap (λ (n : Net). named (names_in a b s half t) (next_at n j)) (runs_is sizes half t (omega arith))))
+        ∙ ap (λ (n : Net). named (names_in c half t) (next_at n j)) (runs_is sizes half t (omega arith))))
 
-    down_low : OfCycle a b s half t (turned negated (x % 2) next)
+    down_low : OfCycle c half t (turned negated (x % 2) next)
     down_low =
-        let n = runs a b s half t in
+        let n = runs c half t in
         turned_low (x % 2) next (n.counts.inputs + n.counts.flops + n.counts.gates) (next_low n (on_bounded sizes (side_in s.plan half t)) j)
 
   -- the same from what a loop has, which comes down to t - 1
   pub stepped : (half : Half) (t x j r : ℕ) → 0 < t → t < s.plan.cycles → flop_of s x ≡ Some j
-      → r ≡ turned negated (x % 2) (next_at (runs a b s half (t - 1)) j)
-      → OfCycle a b s half (t - 1) r × (named (names_in a b s half (t - 1)) r ≡ named (names_in a b s half t) x)
+      → r ≡ turned negated (x % 2) (next_at (runs c half (t - 1)) j)
+      → OfCycle c half (t - 1) r × (named (names_in c half (t - 1)) r ≡ named (names_in c half t) x)
   stepped half t x j r h l f e =
       let up : suc (t - 1) ≡ t = omega arith in (
-        subst (λ y. OfCycle a b s half (t - 1) y) (sym e) (down_low half (t - 1) x j),
-        ap (named (names_in a b s half (t - 1))) e ∙ down half (t - 1) x j (omega arith) f ∙ ap (λ u. named (names_in a b s half u) x) up,
+        subst (λ y. OfCycle c half (t - 1) y) (sym e) (down_low half (t - 1) x j),
+        ap (named (names_in c half (t - 1))) e ∙ down half (t - 1) x j (omega arith) f ∙ ap (λ u. named (names_in c half u) x) up,
       )

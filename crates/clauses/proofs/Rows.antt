@@ -1,5 +1,5 @@
 -- The rows of a comparison: their circuits, and how many gates these have.
-use Rattle.std.proofs.Common.{◌≡◌, ℕ, zero, suc, ◌+◌, ◌-◌, ◌*◌, ◌<◌, ◌≤◌, min, ltb, List, [], ◌∷◌, ◌++◌, length, take, replicate, sym, refl, ap, ◌∙◌, ap₂, ⊎_elim, arith, length-append}
+use Rattle.std.proofs.Common.{◌≡◌, ℕ, zero, suc, ◌+◌, ◌-◌, ◌*◌, ◌<◌, ◌≤◌, min, ltb, List, [], ◌∷◌, ◌++◌, length, take, replicate, sym, refl, ap, ◌∙◌, subst, ap₂, ⊎_elim, arith, length-append}
 use lib.ListN.{length-replicate}
 use Rattle.std.specs.List.{AllByRecursion}
 use Rattle.std.proofs.ByRecursion.{All-append}
@@ -18,8 +18,8 @@ use Rattle.clauses.specs.declared.plan.Half.TheVariants.{Left, Right}
 use Rattle.clauses.specs.declared.plan.Row.{Row}
 use Rattle.clauses.specs.declared.shape.Shape.{Shape}
 use Rattle.clauses.specs.Plans.{other_side, on, half_row, half_of}
-use Rattle.clauses.specs.Shapes.{gates_on, gates_before}
-use Rattle.clauses.specs.Asked.{runs}
+use Rattle.clauses.specs.Shapes.{AreSizes, gates_on, gates_before}
+use Rattle.clauses.specs.Asked.{Compared, runs}
 use Rattle.clauses.proofs.Gates.{turns}
 
 -- a row by one circuit and then by another
@@ -54,41 +54,44 @@ take_two (suc n) k (suc t) x y l =
     let d : suc t - suc n ≡ t - n = omega arith in
     rw (e, d) (ap (λ r. x ∷ r) (take_two n k t x y (omega arith)))
 
--- the sizes are those of two bounded circuits
-pub record Sizes (a b : Net) (s : Shape) : Type 0 where
-  pub original : Bounded a
-  pub gated : Bounded b
-  pub of_original : s.original ≡ a.counts
-  pub of_gated : s.gated ≡ b.counts
+-- the sizes are those of the circuits, which are bounded
+pub record Sizes (c : Compared) : Type 0 where
+  pub original : Bounded c.original
+  pub gated : Bounded c.gated
+  pub are : AreSizes c.original.counts c.gated.counts c.fixed c.shape
 
-pub sizes_of : {a b : Net} (s : Shape) → Bounded a → Bounded b → s.original ≡ a.counts → s.gated ≡ b.counts → Sizes a b s
-sizes_of s original gated of_original of_gated = record { original = original; gated = gated; of_original = of_original; of_gated = of_gated }
+-- from what a comparison holds
+pub sizes_of : {v c : Compared} → v ≡ c → Bounded v.original → Bounded v.gated → AreSizes v.original.counts v.gated.counts v.fixed v.shape → Sizes c
+sizes_of is original gated are = subst Sizes is (record { original = original; gated = gated; are = are })
 
-module _ {a b : Net} {s : Shape} (sizes : Sizes a b s) where
-  pub on_bounded : (d : Side) → Bounded (on a b d)
+module _ {c : Compared} (sizes : Sizes c) where
+  abbrev s : Shape
+  s = c.shape
+
+  pub on_bounded : (d : Side) → Bounded (on c.original c.gated d)
   on_bounded Original = sizes.original
   on_bounded Gated = sizes.gated
 
-  gates_are : (d : Side) → length (on a b d).operands ≡ gates_on s d
-  gates_are Original = sizes.original.operands_are ∙ ap (λ c. c.gates) (sym sizes.of_original)
-  gates_are Gated = sizes.gated.operands_are ∙ ap (λ c. c.gates) (sym sizes.of_gated)
+  gates_are : (d : Side) → length (on c.original c.gated d).operands ≡ gates_on s d
+  gates_are Original = sizes.original.operands_are ∙ ap (λ n. n.gates) (sym sizes.are.of_original)
+  gates_are Gated = sizes.gated.operands_are ∙ ap (λ n. n.gates) (sym sizes.are.of_gated)
 
   -- each circuit has so many inputs, flops and outputs
-  pub sized_on : (d : Side) → Sized s.original.inputs s.original.flops s.original.outputs (on a b d)
+  pub sized_on : (d : Side) → Sized s.original.inputs s.original.flops s.original.outputs (on c.original c.gated d)
   sized_on Original =
-      let flops = ap (λ c. c.flops) (sym sizes.of_original) in
-      let outputs = ap (λ c. c.outputs) (sym sizes.of_original) in
+      let flops = ap (λ n. n.flops) (sym sizes.are.of_original) in
+      let outputs = ap (λ n. n.outputs) (sym sizes.are.of_original) in
       record {
-        inputs_are = ap (λ c. c.inputs) (sym sizes.of_original);
+        inputs_are = ap (λ n. n.inputs) (sym sizes.are.of_original);
         flops_are = flops;
         nexts_are = sizes.original.nexts_are ∙ flops;
         outs_are = sizes.original.outs_are ∙ outputs;
       }
   sized_on Gated =
-      let flops = ap (λ c. c.flops) (sym sizes.of_gated) ∙ sym s.same_flops in
-      let outputs = ap (λ c. c.outputs) (sym sizes.of_gated) ∙ sym s.same_outputs in
+      let flops = ap (λ n. n.flops) (sym sizes.are.of_gated) ∙ sym s.same_flops in
+      let outputs = ap (λ n. n.outputs) (sym sizes.are.of_gated) ∙ sym s.same_outputs in
       record {
-        inputs_are = ap (λ c. c.inputs) (sym sizes.of_gated) ∙ sym s.same_inputs;
+        inputs_are = ap (λ n. n.inputs) (sym sizes.are.of_gated) ∙ sym s.same_inputs;
         flops_are = flops;
         nexts_are = sizes.gated.nexts_are ∙ flops;
         outs_are = sizes.gated.outs_are ∙ outputs;
@@ -102,16 +105,16 @@ module _ {a b : Net} {s : Shape} (sizes : Sizes a b s) where
     f = s.plan.cycles
 
     abbrev x : Net
-    x = on a b r.front
+    x = on c.original c.gated r.front
 
     abbrev y : Net
-    y = on a b (other_side r.front)
+    y = on c.original c.gated (other_side r.front)
 
-    pub length_half : length (half_of a b s.plan half) ≡ f
+    pub length_half : length (half_of c.original c.gated s.plan half) ≡ f
     length_half = length_two r.turn (f - r.turn) x y ∙ omega (arith, turns s half)
 
     -- the gates of the first t cycles
-    pub count_before : (t : ℕ) → t ≤ f → gate_count (take t (half_of a b s.plan half)) ≡ gates_before s half t
+    pub count_before : (t : ℕ) → t ≤ f → gate_count (take t (half_of c.original c.gated s.plan half)) ≡ gates_before s half t
     count_before t l =
         ap gate_count (take_two r.turn (f - r.turn) t x y (omega arith))
         ∙ count_append (replicate (min t r.turn) x) (replicate (t - r.turn) y)
@@ -119,28 +122,28 @@ module _ {a b : Net} {s : Shape} (sizes : Sizes a b s) where
         (count_replicate (t - r.turn) y ∙ ap (λ g. (t - r.turn) * g) (gates_are (other_side r.front)))
 
     -- the circuit of cycle t
-    pub runs_is : (t : ℕ) → t < f → net_at (half_of a b s.plan half) t ≡ runs a b s half t
+    pub runs_is : (t : ℕ) → t < f → net_at (half_of c.original c.gated s.plan half) t ≡ runs c half t
     runs_is t h =
         let n = length-replicate r.turn x in
         ⊎_elim
         (λ (e : t < r.turn).
         get_or_append_left (replicate r.turn x) (replicate (f - r.turn) y) blank t (omega arith)
         ∙ get_or-replicate r.turn t x blank e
-        ∙ ap (on a b) (sym (cond-true (ltb t r.turn) r.front (other_side r.front) (lt-ltb t r.turn e))))
+        ∙ ap (on c.original c.gated) (sym (cond-true (ltb t r.turn) r.front (other_side r.front) (lt-ltb t r.turn e))))
         (λ (e : r.turn ≤ t).
         get_or-append_right (replicate r.turn x) (replicate (f - r.turn) y) r.turn t blank n e
         ∙ get_or-replicate (f - r.turn) (t - r.turn) y blank (omega arith)
-        ∙ ap (on a b) (sym (cond-false (ltb t r.turn) r.front (other_side r.front) (le-ltb t r.turn e))))
+        ∙ ap (on c.original c.gated) (sym (cond-false (ltb t r.turn) r.front (other_side r.front) (le-ltb t r.turn e))))
         (cases_lt t r.turn)
 
-    all_in_half : (P : Net → Type 0) → ((d : Side) → P (on a b d)) → AllByRecursion P (half_of a b s.plan half)
+    all_in_half : (P : Net → Type 0) → ((d : Side) → P (on c.original c.gated d)) → AllByRecursion P (half_of c.original c.gated s.plan half)
     all_in_half P each =
         All-append P (replicate r.turn x) (replicate (f - r.turn) y) (all_replicate P r.turn x (each r.front))
         (all_replicate P (f - r.turn) y (each (other_side r.front)))
 
   pub rows_placed : (bits : List ℕ)
-      → Placed s.original.inputs s.original.flops s.original.outputs bits (half_of a b s.plan Left) (half_of a b s.plan Right)
+      → Placed s.original.inputs s.original.flops s.original.outputs bits (half_of c.original c.gated s.plan Left) (half_of c.original c.gated s.plan Right)
   rows_placed bits =
-      placed s.original.inputs s.original.flops s.original.outputs bits (half_of a b s.plan Left) (half_of a b s.plan Right)
+      placed s.original.inputs s.original.flops s.original.outputs bits (half_of c.original c.gated s.plan Left) (half_of c.original c.gated s.plan Right)
       (all_in_half Left _ sized_on) (all_in_half Right _ sized_on) (length_half Left ∙ sym (length_half Right))
       (all_in_half Left Bounded on_bounded) (all_in_half Right Bounded on_bounded)

@@ -1,5 +1,6 @@
 -- The sizes of a comparison in numbers, as code sees them.
-use Rattle.std.specs.Prelude.{◌≡◌, ℕ, ◌+◌, ◌-◌, ◌*◌, ◌/◌, ◌%◌, ◌<◌, min, cond, ◌&&◌, ◌⊎◌, Some, None, Option, ◌==◌, nat_le, nat_lt}
+use Rattle.std.specs.Prelude.{◌≡◌, ℕ, ◌+◌, ◌-◌, ◌*◌, ◌/◌, ◌%◌, ◌<◌, min, cond, ◌&&◌, ◌⊎◌, List, length, Some, None, Option, ◌==◌, nat_le, nat_lt}
+use Rattle.circuits.specs.declared.counts.Counts.{Counts}
 use Rattle.clauses.specs.declared.plan.Side.{Side}
 use Rattle.clauses.specs.declared.plan.Side.TheVariants.{Original, Gated}
 use Rattle.clauses.specs.declared.plan.Half.{Half}
@@ -9,6 +10,12 @@ use Rattle.clauses.specs.declared.shape.Shape.{Shape}
 use Rattle.clauses.specs.declared.shape.Place.{Place}
 use Rattle.clauses.specs.declared.shape.Place.TheVariants.{Nowhere, Constant, Gate, Output, Final, Differences, Fixed}
 use Rattle.clauses.specs.Plans.{other_side, half_row, side_in}
+
+-- the sizes of circuits of these counts, where these start bits are fixed
+pub record AreSizes (original gated : Counts) (fixed : List ℕ) (s : Shape) : Type 0 where
+  pub of_original : s.original ≡ original
+  pub of_gated : s.gated ≡ gated
+  pub of_fixed : s.fixed ≡ length fixed
 
 module _ (s : Shape) where
   -- the gates of the circuit of a side, of the one that runs in cycle t, and of the first t cycles of a row

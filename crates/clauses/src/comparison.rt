@@ -9,17 +9,26 @@ use crate::running::Running;
 use crate::shape::{Shape, Spot};
 use circuits::circuit::{Circuit, Gate};
 use circuits::counts::Counts;
+use std::marker::Model;
 
-// The sizes are those of the circuits, and of the start bits that are fixed.
 #[derive(Drop)]
 pub struct Comparison<'a, O: Circuit, G: Circuit> {
     original: &'a O,
     gated: &'a G,
     shape: Shape,
     fixed: Fixed,
-    ghost of_original: { shape.original ≡ (O.Circuit.meaning original.now).counts },
-    ghost of_gated: { shape.gated ≡ (G.Circuit.meaning gated.now).counts },
-    ghost of_fixed: { shape.fixed ≡ length fixed },
+}
+
+// Clauses see what the circuits are. The sizes are theirs, and those of the start bits that are fixed.
+impl<'a, O: Circuit, G: Circuit> Model for Comparison<'a, O, G> {
+    ghost use Rattle.clauses.specs.Shapes.{AreSizes};
+    ghost use Rattle.clauses.specs.Asked.{Compared};
+
+    ghost Value = { Compared };
+
+    ghost view = { λ c. record { original = O.Circuit.meaning c.original.now; gated = G.Circuit.meaning c.gated.now; shape = c.shape; fixed = c.fixed } };
+
+    ghost invariant = { λ c. AreSizes (O.Circuit.meaning c.original.now).counts (G.Circuit.meaning c.gated.now).counts c.fixed c.shape };
 }
 
 pub(crate) fn same_sizes(a: Counts, b: Counts) -> bool
@@ -36,9 +45,9 @@ impl<'a, O: Circuit, G: Circuit> Comparison<'a, O, G> {
     ghost use Rattle.clauses.specs.Asked.{runs, OfCycle, names_in, output_of, final_of, gate_clause_of, output_clause_of, final_clause_of};
 
     // The comparison by a plan that fixes these start bits, where the circuits are of the same sizes and the plan is in time.
-    fn of(original: &'a O, gated: &'a G, plan: Plan, fixed: Fixed) -> Option<Self>
+    pub(crate) fn new(original: &'a O, gated: &'a G, plan: Plan, fixed: Fixed) -> Option<Self>
         ensures some { IsSome result ↔ IsTrue (opening.same_sizes (O.Circuit.meaning original.now).counts (G.Circuit.meaning gated.now).counts && in_time plan) }
-        ensures of { IfSome result (λ c. (c.original.now ≡ original.now) × (c.gated.now ≡ gated.now) × (c.shape.plan ≡ plan) × (c.fixed ≡ fixed)) }
+        ensures of { IfSome result (λ c. (c.original ≡ O.Circuit.meaning original.now) × (c.gated ≡ G.Circuit.meaning gated.now) × (c.shape.plan ≡ plan) × (c.fixed ≡ fixed)) }
     {
         let a = original.counts();
         let b = gated.counts();
@@ -61,7 +70,7 @@ impl<'a, O: Circuit, G: Circuit> Comparison<'a, O, G> {
 
     // The circuit that runs in cycle t of a row.
     fn running(&self, half: Half, t: u32) -> Running<'a, O, G>
-        ensures { ⟦<Running<'a, O, G> as Circuit>⟧.meaning result ≡ runs (O.Circuit.meaning self.now.original.now) (G.Circuit.meaning self.now.gated.now) self.now.shape half t }
+        ensures { ⟦<Running<'a, O, G> as Circuit>⟧.meaning result ≡ runs self.now half t }
     {
         match self.shape.plan.row(half).side(t) {
             Side::Original => Running::Original(self.original),
@@ -72,8 +81,8 @@ impl<'a, O: Circuit, G: Circuit> Comparison<'a, O, G> {
     // What literal x of cycle t of a row is among the literals of the clauses: a flop is what its next literal is in the cycle before.
     fn named(&self, half: Half, cycle: u32, mut x: u32) -> u32
         requires early { cycle < self.now.shape.plan.cycles }
-        requires of_cycle { OfCycle (O.Circuit.meaning self.now.original.now) (G.Circuit.meaning self.now.gated.now) self.now.shape half cycle x }
-        ensures { result ≡ naming (names_in (O.Circuit.meaning self.now.original.now) (G.Circuit.meaning self.now.gated.now) self.now.shape half cycle) x }
+        requires of_cycle { OfCycle self.now half cycle x }
+        ensures { result ≡ naming (names_in self.now half cycle) x }
     {
         for t in (0..cycle).rev() {
             let Some(flop) = self.shape.flop(x) else {
@@ -87,14 +96,14 @@ impl<'a, O: Circuit, G: Circuit> Comparison<'a, O, G> {
     // What is compared: an output in a cycle of a row, and the final bit of a flop.
     fn output(&self, half: Half, spot: Spot) -> u32
         requires { spot.cycle < self.now.shape.plan.cycles }
-        ensures { result ≡ output_of (O.Circuit.meaning self.now.original.now) (G.Circuit.meaning self.now.gated.now) self.now.shape half spot }
+        ensures { result ≡ output_of self.now half spot }
     {
         let x = self.running(half, spot.cycle).out(spot.at);
         self.named(half, spot.cycle, x)
     }
 
     fn final_bit(&self, half: Half, flop: u32) -> u32
-        ensures { result ≡ final_of (O.Circuit.meaning self.now.original.now) (G.Circuit.meaning self.now.gated.now) self.now.shape half flop }
+        ensures { result ≡ final_of self.now half flop }
     {
         let last = self.shape.plan.cycles - 1;
         let x = self.running(half, last).next(flop);
@@ -106,7 +115,7 @@ impl<'a, O: Circuit, G: Circuit> Comparison<'a, O, G> {
         requires early { spot.cycle < self.now.shape.plan.cycles }
         requires low { spot.at ≤ 8192 }
         requires three_parts { part < 3 }
-        ensures { result ≡ slice_index (gate_clause_of (O.Circuit.meaning self.now.original.now) (G.Circuit.meaning self.now.gated.now) self.now.shape half spot part) i }
+        ensures { result ≡ slice_index (gate_clause_of self.now half spot part) i }
     {
         let Gate { left, right } = self.running(half, spot.cycle).gate(spot.at);
         let own = 2 * self.shape.gate_variable(half, spot);
@@ -125,7 +134,7 @@ impl<'a, O: Circuit, G: Circuit> Comparison<'a, O, G> {
     fn output_literal(&self, spot: Spot, part: u32, i: u32) -> u32
         requires early { spot.cycle < self.now.shape.plan.cycles }
         requires low { spot.at < self.now.shape.original.outputs }
-        ensures { result ≡ slice_index (output_clause_of (O.Circuit.meaning self.now.original.now) (G.Circuit.meaning self.now.gated.now) self.now.shape spot part) i }
+        ensures { result ≡ slice_index (output_clause_of self.now spot part) i }
     {
         let variable = self.shape.output_variable(spot);
         let left = self.output(Half::Left, spot);
@@ -135,7 +144,7 @@ impl<'a, O: Circuit, G: Circuit> Comparison<'a, O, G> {
 
     fn final_literal(&self, flop: u32, part: u32, i: u32) -> u32
         requires { flop < self.now.shape.original.flops }
-        ensures { result ≡ slice_index (final_clause_of (O.Circuit.meaning self.now.original.now) (G.Circuit.meaning self.now.gated.now) self.now.shape flop part) i }
+        ensures { result ≡ slice_index (final_clause_of self.now flop part) i }
     {
         let variable = self.shape.final_variable(flop);
         let left = self.final_bit(Half::Left, flop);
