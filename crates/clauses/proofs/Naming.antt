@@ -1,7 +1,8 @@
 -- What a literal of a cycle is among the literals of the clauses.
-use Rattle.std.proofs.Common.{◌≡◌, ℕ, zero, suc, ◌+◌, ◌-◌, ◌*◌, ◌/◌, ◌%◌, ◌<◌, ◌≤◌, Bool, true, false, cond, ◌&&◌, eqb, ltb, leb, ◌⊎◌, List, [], length, get_or, Some, None, Option, sym, refl, ap, ◌∙◌, subst, ap₂, inl, inr, ⊎_elim, arith}
+use Rattle.std.proofs.Common.{◌≡◌, ℕ, zero, suc, ◌+◌, ◌-◌, ◌*◌, ◌/◌, ◌%◌, ◌<◌, ◌≤◌, ◌⊎◌, List, [], length, get_or, Some, None, sym, refl, ap, ◌∙◌, subst, ap₂, inl, inr, arith}
 use Rattle.std.proofs.lemmas.List.{take_all}
-use Rattle.std.proofs.lemmas.Bool.{cases_lt, and_parts, and_from, ltb-true, leb-true, lt-ltb, le-leb, lt-leb, eq-eqb, ne_eqb, both_ways}
+use Rattle.std.proofs.lemmas.Bool.Decides.{nat_tests}
+use Rattle.std.proofs.lemmas.Bool.{cases_lt}
 use Rattle.circuits.specs.Net.{Net, Bounded, top, next_at, turned}
 use Rattle.circuits.proofs.Lookups.{next_low}
 use Rattle.comparisons.specs.Clauses.{negated, off, named, gate_count, start, input}
@@ -43,41 +44,44 @@ turned_low : (r y m : ℕ) → y ≤ 2 * m + 1 → turned negated r y ≤ 2 * m 
 turned_low zero y m l = l
 turned_low (suc r) y m l = omega arith
 
--- the variable of a net
-module _ (s : Shape) (half : Half) (t v : ℕ) where
-  abbrev I₀ : ℕ
-  I₀ = s.original.inputs
+-- the variable of each net
+module _ (s : Shape) (half : Half) (t : ℕ) where
+  var_off : own_variable s half t 0 ≡ 1
+  var_off = refl
 
-  abbrev L₀ : ℕ
-  L₀ = s.original.flops
+  var_input : (i : ℕ) → i < s.original.inputs → own_variable s half t (1 + i) ≡ 2 + s.original.flops + t * s.original.inputs + i
+  var_input i l = grind (arith, nat_tests)
 
-  var_off : v ≡ 0 → own_variable s half t v ≡ 1
-  var_off e = let z = eq-eqb v 0 e in rw z refl
+  var_flop : (j : ℕ) → j < s.original.flops → own_variable s half t (1 + s.original.inputs + j) ≡ 2 + j
+  var_flop j l = grind (arith, nat_tests)
 
-  var_input : 0 < v → v ≤ I₀ → own_variable s half t v ≡ 1 + L₀ + t * I₀ + v
-  var_input h l =
-      let z : eqb v 0 ≡ false = ne_eqb v 0 (λ q. omega arith) in
-      let i = le-leb v I₀ l in rw (z, i) refl
+  var_gate : (g : ℕ) → own_variable s half t (1 + s.original.inputs + s.original.flops + g) ≡ gate_variable s half (record { cycle = t; at = g })
+  var_gate g = grind (arith, nat_tests)
 
-  var_flop : I₀ < v → v ≤ I₀ + L₀ → own_variable s half t v ≡ 1 + v - I₀
-  var_flop h l =
-      let z : eqb v 0 ≡ false = ne_eqb v 0 (λ q. omega arith) in
-      let i = lt-leb v I₀ h in
-      let f = le-leb v (I₀ + L₀) l in rw (z, i, f) refl
+-- whether literal x names a flop
+data Names (s : Shape) (x : ℕ) : Type 0 where
+  a-flop : (j : ℕ) → j < s.original.flops → x / 2 ≡ 1 + s.original.inputs + j → flop_of s x ≡ Some j → Names s x
+  no-flop : (x / 2 ≤ s.original.inputs) ⊎ (s.original.inputs + s.original.flops < x / 2) → flop_of s x ≡ None → Names s x
 
-  var_gate : I₀ + L₀ < v → own_variable s half t v ≡ gate_variable s half (record { cycle = t; at = v - (1 + I₀ + L₀) })
-  var_gate h =
-      let z : eqb v 0 ≡ false = ne_eqb v 0 (λ q. omega arith) in
-      let i : leb v I₀ ≡ false = lt-leb v I₀ (omega arith) in
-      let f = lt-leb v (I₀ + L₀) h in rw (z, i, f) refl
+module _ (s : Shape) (x : ℕ) where
+  flop_below : x / 2 ≤ s.original.inputs → flop_of s x ≡ None
+  flop_below l = grind (arith, nat_tests)
 
-flop_named : (t : Bool) (j k : ℕ) → ◌≡◌ {A = Option ℕ} (cond t (Some j) None) (Some k) → (t ≡ true) × (j ≡ k)
-flop_named true j k e = (refl, cc)
-flop_named false j k e = cc
+  flop_above : s.original.inputs + s.original.flops < x / 2 → flop_of s x ≡ None
+  flop_above l = grind (arith, nat_tests)
 
-none_named : (t : Bool) (j : ℕ) → ◌≡◌ {A = Option ℕ} (cond t (Some j) None) None → t ≡ false
-none_named true j e = cc
-none_named false j e = refl
+  flop_within : s.original.inputs < x / 2 → x / 2 ≤ s.original.inputs + s.original.flops → flop_of s x ≡ Some (x / 2 - (1 + s.original.inputs))
+  flop_within h l = grind (arith, nat_tests)
+
+  names : Names s x
+  names =
+      elim (cases_lt s.original.inputs (x / 2)) [
+        | inr low ↦ no-flop (inl low) (flop_below low)
+        | inl high ↦ elim (cases_lt (s.original.inputs + s.original.flops) (x / 2)) [
+          | inl above ↦ no-flop (inr above) (flop_above above)
+          | inr within ↦ a-flop (x / 2 - (1 + s.original.inputs)) (omega arith) (omega arith) (flop_within high within)
+        ]
+      ]
 
 module _ {c : Compared} (sizes : Sizes c) where
   abbrev s : Shape
@@ -119,80 +123,68 @@ module _ {c : Compared} (sizes : Sizes c) where
     bounded : Bounded net
     bounded = subst Bounded (sym (runs_is sizes half t lt)) (on_bounded sizes (side_in s.plan half t))
 
-    -- by the net that a literal names
-    by_net : (x v y : ℕ) → get_or Nets (x / 2) off ≡ y → y ≡ 2 * v → named Nets x ≡ 2 * v + x % 2
-    by_net x v y e f = ap (turned negated (x % 2)) (e ∙ f) ∙ turned_even (x % 2) v (omega arith)
-
-    own_off : (x : ℕ) → x / 2 ≡ 0 → named Nets x ≡ own_literal s half t x
+    -- net v of the cycle has this literal
+    net_off : get_or Nets 0 off ≡ off
     unfolding names_in
-    own_off x e = by_net x 1 off (ap (λ v. get_or Nets v off) e) refl ∙ ap (λ m. 2 * m + x % 2) (sym (var_off s half t (x / 2) e))
+    net_off = refl
 
-    own_input : (x : ℕ) → 0 < x / 2 → x / 2 ≤ I → named Nets x ≡ own_literal s half t x
+    net_input : (i : ℕ) → i < I → get_or Nets (1 + i) off ≡ 2 * (2 + L + t * I + i)
     unfolding names_in
-    own_input x h l =
-        let i = x / 2 - 1 in
-        let e : x / 2 ≡ 1 + i = omega arith in
-        let b : i < net.counts.inputs = omega (arith, sized.inputs_are) in
-        by_net x (1 + L + t * I + x / 2) (get_or (input I L t) i off)
-        (ap (λ v. get_or Nets v off) e ∙ (nets_named net held (input I L t) z).of_input i b) ((bits_named I L).of_input t i (omega arith) ∙ omega arith)
-        ∙ ap (λ m. 2 * m + x % 2) (sym (var_input s half t (x / 2) h l))
+    net_input i l = (nets_named net held (input I L t) z).of_input i (omega (arith, sized.inputs_are)) ∙ (bits_named I L).of_input t i l
 
-    -- a flop is what it holds
-    flop_held : (x : ℕ) → I < x / 2 → x / 2 ≤ I + L → get_or Nets (x / 2) off ≡ get_or held (x / 2 - (1 + I)) off
+    net_flop : (j : ℕ) → j < L → get_or Nets (1 + I + j) off ≡ get_or held j off
     unfolding names_in
-    flop_held x h l =
-        let j = x / 2 - (1 + I) in
-        let e : x / 2 ≡ 1 + net.counts.inputs + j = omega (arith, sized.inputs_are) in
-        let b : j < net.counts.flops = omega (arith, sized.flops_are) in
-        ap (λ v. get_or Nets v off) e ∙ (nets_named net held (input I L t) z).of_flop j b
+    net_flop j l =
+        ap (λ m. get_or Nets (1 + m + j) off) (sym sized.inputs_are) ∙ (nets_named net held (input I L t) z).of_flop j (omega (arith, sized.flops_are))
 
-    own_gate : (x : ℕ) → I + L < x / 2 → OfCycle c half t x → named Nets x ≡ own_literal s half t x
+    net_gate : (g : ℕ) → g < length net.operands → get_or Nets (1 + I + L + g) off ≡ 2 * gate_variable s half (record { cycle = t; at = g })
     unfolding names_in
-    own_gate x h o =
-        let g = x / 2 - (1 + I + L) in
-        let e : x / 2 ≡ 1 + net.counts.inputs + net.counts.flops + g = omega (arith, sized.inputs_are, sized.flops_are) in
-        let low : x ≤ top net.counts = subst (λ (n : Net). x ≤ top n.counts) (sym (runs_is sizes half t lt)) o in
-        let b : g < length net.operands = omega (arith, sized.inputs_are, sized.flops_are, bounded.operands_are) in
+    net_gate g l =
         let before = count_before sizes half t (omega arith) in
         let first = first_is half in
-        by_net x (gate_variable s half (record { cycle = t; at = g })) (2 * (z + g))
-        (ap (λ v. get_or Nets v off) e ∙ (nets_named net held (input I L t) z).of_gate g b) (omega arith)
-        ∙ ap (λ m. 2 * m + x % 2) (sym (var_gate s half t (x / 2) h))
+        ap₂ (λ m n. get_or Nets (1 + m + n + g) off) (sym sized.inputs_are) (sym sized.flops_are)
+        ∙ (nets_named net held (input I L t) z).of_gate g l ∙ omega arith
 
-    other_than_flop : (x : ℕ) → OfCycle c half t x → (x / 2 ≤ I) ⊎ (I + L < x / 2) → named Nets x ≡ own_literal s half t x
+    -- by the net that a literal names
+    by_net : (x v w : ℕ) → x / 2 ≡ v → get_or Nets v off ≡ 2 * w → own_variable s half t v ≡ w → own_literal s half t x ≡ named Nets x
+    by_net x v w e n o =
+        let own : own_variable s half t (x / 2) ≡ w = ap (own_variable s half t) e ∙ o in
+        let net : get_or Nets (x / 2) off ≡ 2 * w = ap (λ u. get_or Nets u off) e ∙ n in
+        ap (λ u. 2 * u + x % 2) own ∙ sym (ap (turned negated (x % 2)) net ∙ turned_even (x % 2) w (omega arith))
+
+    other_than_flop : (x : ℕ) → OfCycle c half t x → (x / 2 ≤ I) ⊎ (I + L < x / 2) → own_literal s half t x ≡ named Nets x
     other_than_flop x o w =
-        ⊎_elim
-        (λ (h : x / 2 ≤ I). ⊎_elim (λ (e : 0 < x / 2). own_input x e h) (λ (e : x / 2 ≤ 0). own_off x (omega arith)) (cases_lt 0 (x / 2)))
-        (λ (h : I + L < x / 2). own_gate x h o) w
+        let is = runs_is sizes half t lt in
+        elim w [
+          | inl low ↦ elim (cases_lt 0 (x / 2)) [
+            | inl some ↦ let i = x / 2 - 1 in by_net x (1 + i) _ (omega arith) (net_input i (omega arith)) (var_input s half t i (omega arith))
+            | inr none ↦ by_net x 0 1 (omega arith) net_off (var_off s half t)
+          ]
+          | inr high ↦
+              let g = x / 2 - (1 + I + L) in
+              let below : x ≤ top net.counts = subst (λ (n : Net). x ≤ top n.counts) (sym is) o in
+              by_net x (1 + I + L + g) _ (omega arith)
+              (net_gate g (omega (arith, sized.inputs_are, sized.flops_are, bounded.operands_are))) (var_gate s half t g)
+        ]
 
     -- what a literal is that names no flop
     pub own_without_flop : (x : ℕ) → OfCycle c half t x → flop_of s x ≡ None → own_literal s half t x ≡ named Nets x
-    own_without_flop x o e =
-        let no = none_named (ltb I (x / 2) && leb (x / 2) (I + L)) (x / 2 - (1 + I)) e in
-        sym (other_than_flop x o
-        (⊎_elim (λ (h : I < x / 2). ⊎_elim (λ (k : I + L < x / 2). inr k)
-        (λ (k : x / 2 ≤ I + L). absurd (both_ways (ltb I (x / 2) && leb (x / 2) (I + L)) no
-        (and_from (ltb I (x / 2)) (leb (x / 2) (I + L)) (lt-ltb I (x / 2) h) (le-leb (x / 2) (I + L) k))))
-        (cases_lt (I + L) (x / 2))) (λ (h : x / 2 ≤ I). inl h) (cases_lt I (x / 2))))
+    own_without_flop x o none = elim (names s x) [ no-flop w is ↦ other_than_flop x o w | a-flop j l e some ↦ cc ]
 
   -- and any literal in cycle 0
   own_at_0 : (half : Half) (x : ℕ) → OfCycle c half 0 x → own_literal s half 0 x ≡ named (names_in c half 0) x
   own_at_0 half x o =
       let lt : 0 < s.plan.cycles = omega (arith, s.in_time.some_cycle) in
-      ⊎_elim
-      (λ (h : I < x / 2). ⊎_elim (λ (k : I + L < x / 2). sym (other_than_flop half 0 lt x o (inr k)))
-      (λ (k : x / 2 ≤ I + L).
-      let j = x / 2 - (1 + I) in
-      sym (by_net half 0 lt x (1 + x / 2 - I) (get_or (start I L) j off) (flop_held half 0 lt x h k) ((bits_named I L).of_start j (omega arith) ∙ omega arith)
-      ∙ ap (λ m. 2 * m + x % 2) (sym (var_flop s half 0 (x / 2) h k)))) (cases_lt (I + L) (x / 2)))
-      (λ (h : x / 2 ≤ I). sym (other_than_flop half 0 lt x o (inl h)))
-      (cases_lt I (x / 2))
+      elim (names s x) [
+        | no-flop w is ↦ other_than_flop half 0 lt x o w
+        | a-flop j l e is ↦ by_net half 0 lt x (1 + I + j) (2 + j) e (net_flop half 0 lt j l ∙ (bits_named I L).of_start j l) (var_flop s half 0 j l)
+      ]
 
   pub own_at_start : (half : Half) (t x : ℕ) → t ≡ 0 → OfCycle c half t x → own_literal s half 0 x ≡ named (names_in c half t) x
   own_at_start half t x e o =
       own_at_0 half x (subst (λ u. OfCycle c half u x) e o) ∙ ap (λ u. named (names_in c half u) x) (sym e)
 
-  -- one cycle down: a flop is what its next literal is there
+  -- a flop is what its next literal is in the cycle before
   flop_later : (half : Half) (t j : ℕ) → t < s.plan.cycles → j < L
       → get_or (flops_at (half_of c.original c.gated s.plan half) (start I L) (input I L) (first_of c half) (suc t)) j off
       ≡ named (names_in c half t) (next_at (net_at (half_of c.original c.gated s.plan half) t) j)
@@ -200,29 +192,25 @@ module _ {c : Compared} (sizes : Sizes c) where
   flop_later Left t j l k = (rows_placed sizes []).of_left.flop_later t j (omega (arith, length_half sizes Left)) k
   flop_later Right t j l k = (rows_placed sizes []).of_right.flop_later t j (omega (arith, length_half sizes Right)) k
 
-  module _ (half : Half) (t x j : ℕ) where
-    abbrev next : ℕ
-    next = next_at (runs c half t) j
+  down : (half : Half) (t x j : ℕ) → suc t < s.plan.cycles → flop_of s x ≡ Some j
+      → named (names_in c half t) (turned negated (x % 2) (next_at (runs c half t) j)) ≡ named (names_in c half (suc t)) x
+  down half t x j lt some =
+      let Nets = names_in c half t in
+      let is = ap (λ (n : Net). named Nets (next_at n j)) (runs_is sizes half t (omega arith)) in
+      elim (names s x) [
+        | no-flop w none ↦ cc
+        | a-flop k l e is_k ↦
+            let same : k ≡ j = cc in
+            let held = ap (λ v. get_or (names_in c half (suc t)) v off) e ∙ net_flop half (suc t) lt k l ∙ flop_later half t k (omega arith) l in
+            named_turned (x % 2) Nets (next_at (runs c half t) j) ∙ ap (turned negated (x % 2)) (sym (rw same at held ∙ is))
+      ]
 
-    down : suc t < s.plan.cycles → flop_of s x ≡ Some j
-        → named (names_in c half t) (turned negated (x % 2) next) ≡ named (names_in c half (suc t)) x
-    down lt e =
-        let (yes-flop, j-is) = flop_named (ltb I (x / 2) && leb (x / 2) (I + L)) (x / 2 - (1 + I)) j e in
-        let (above, within) = and_parts (ltb I (x / 2)) (leb (x / 2) (I + L)) yes-flop in
-        let h = ltb-true I (x / 2) above in
-        let l = leb-true (x / 2) (I + L) within in
-        named_turned (x % 2) (names_in c half t) next
-        ∙ ap (turned negated (x % 2)) (sym (flop_held half (suc t) lt x h l
-        ∙ ap (λ i. get_or (flops_at (half_of c.original c.gated s.plan half) (start I L) (input I L) (first_of c half) (suc t)) i off) j-is
-        ∙ flop_later half t j (omega arith) (omega arith)
-        ∙ ap (λ (n : Net). named (names_in c half t) (next_at n j)) (runs_is sizes half t (omega arith))))
+  down_low : (half : Half) (t x j : ℕ) → OfCycle c half t (turned negated (x % 2) (next_at (runs c half t) j))
+  down_low half t x j =
+      let n = runs c half t in
+      turned_low (x % 2) (next_at n j) (n.counts.inputs + n.counts.flops + n.counts.gates) (next_low n (on_bounded sizes (side_in s.plan half t)) j)
 
-    down_low : OfCycle c half t (turned negated (x % 2) next)
-    down_low =
-        let n = runs c half t in
-        turned_low (x % 2) next (n.counts.inputs + n.counts.flops + n.counts.gates) (next_low n (on_bounded sizes (side_in s.plan half t)) j)
-
-  -- the same from what a loop has, which comes down to t - 1
+  -- one cycle down, from what a loop has that counts t
   pub stepped : (half : Half) (t x j r : ℕ) → 0 < t → t < s.plan.cycles → flop_of s x ≡ Some j
       → r ≡ turned negated (x % 2) (next_at (runs c half (t - 1)) j)
       → OfCycle c half (t - 1) r × (named (names_in c half (t - 1)) r ≡ named (names_in c half t) x)

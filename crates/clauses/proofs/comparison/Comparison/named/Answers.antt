@@ -1,4 +1,4 @@
-use Rattle.std.proofs.Common.{◌≡◌, ◌+◌, ◌-◌, sym, ap, ◌∙◌, arith}
+use Rattle.std.proofs.Common.{◌≡◌, ◌+◌, ◌-◌, ap, arith}
 use Rattle.clauses.specs.Asked.{Compared}
 use Rattle.clauses.proofs.Rows.{sizes_of}
 use Rattle.clauses.proofs.Naming.{own_without_flop, own_at_start, stepped}
