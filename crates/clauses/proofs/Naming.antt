@@ -101,9 +101,6 @@ module _ {c : Compared} (sizes : Sizes c) where
       let whole = take_all s.plan.cycles (left_of c.original c.gated s.plan) (omega (arith, length_half sizes Left)) in
       let count = ap gate_count (sym whole) ∙ count_before sizes Left s.plan.cycles (omega arith) in omega arith
 
-  pub literal_low : (half : Half) (t x : ℕ) → OfCycle c half t x → x ≤ 17409
-  literal_low half t x o = let b = (on_bounded sizes (side_in s.plan half t)).counts_in in omega (arith, b.few_inputs, b.few_flops, b.few_gates)
-
   module _ (half : Half) (t : ℕ) (lt : t < s.plan.cycles) where
     abbrev net : Net
     net = net_at (half_of c.original c.gated s.plan half) t

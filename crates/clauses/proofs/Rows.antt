@@ -1,14 +1,14 @@
 -- The rows of a comparison: their circuits, and how many gates these have.
-use Rattle.std.proofs.Common.{◌≡◌, ℕ, zero, suc, ◌+◌, ◌-◌, ◌*◌, ◌<◌, ◌≤◌, min, ltb, List, [], ◌∷◌, ◌++◌, length, take, replicate, sym, refl, ap, ◌∙◌, subst, ap₂, ⊎_elim, arith, length-append}
+use Rattle.std.proofs.Common.{◌≡◌, ℕ, zero, suc, ◌+◌, ◌-◌, ◌*◌, ◌<◌, ◌≤◌, min, ltb, List, [], ◌∷◌, ◌++◌, length, take, replicate, sym, refl, ap, ◌∙◌, subst, ap₂, ⊎_elim, arith}
 use lib.ListN.{length-replicate}
 use Rattle.std.specs.List.{AllByRecursion}
-use Rattle.std.proofs.ByRecursion.{All-append}
 use Rattle.std.proofs.lemmas.List.{get_or_append_left, get_or-append_right, get_or-replicate, take-replicate}
 use Rattle.std.proofs.lemmas.Bool.{cases_lt, cond-true, cond-false, lt-ltb, le-ltb}
 use Rattle.circuits.specs.Held.{blank}
 use Rattle.circuits.specs.Net.{Net, Bounded}
 use Rattle.comparisons.specs.Clauses.{gate_count}
 use Rattle.comparisons.specs.Places.{net_at, Placed}
+use Rattle.comparisons.proofs.Repeats.{all_row, length_row}
 use Rattle.comparisons.proofs.Sized.{Sized}
 use Rattle.comparisons.proofs.Numbered.{placed}
 use Rattle.clauses.specs.declared.plan.Side.{Side}
@@ -23,13 +23,6 @@ use Rattle.clauses.specs.Asked.{Compared, runs}
 use Rattle.clauses.proofs.Gates.{turns}
 
 -- a row by one circuit and then by another
-
-length_two : {X : Type 0} (n k : ℕ) (x y : X) → length (replicate n x ++ replicate k y) ≡ n + k
-length_two n k x y = length-append (replicate n x) (replicate k y) ∙ ap₂ ◌+◌ (length-replicate n x) (length-replicate k y)
-
-all_replicate : {X : Type 0} (P : X → Type 0) (n : ℕ) (x : X) → P x → AllByRecursion P (replicate n x)
-all_replicate P zero x p = tt
-all_replicate P (suc n) x p = (p, all_replicate P n x p)
 
 count_replicate : (n : ℕ) (x : Net) → gate_count (replicate n x) ≡ n * length x.operands
 count_replicate zero x = omega arith
@@ -111,7 +104,7 @@ module _ {c : Compared} (sizes : Sizes c) where
     y = on c.original c.gated (other_side r.front)
 
     pub length_half : length (half_of c.original c.gated s.plan half) ≡ f
-    length_half = length_two r.turn (f - r.turn) x y ∙ omega (arith, turns s half)
+    length_half = length_row x y r.turn (f - r.turn) ∙ omega (arith, turns s half)
 
     -- the gates of the first t cycles
     pub count_before : (t : ℕ) → t ≤ f → gate_count (take t (half_of c.original c.gated s.plan half)) ≡ gates_before s half t
@@ -138,8 +131,7 @@ module _ {c : Compared} (sizes : Sizes c) where
 
     all_in_half : (P : Net → Type 0) → ((d : Side) → P (on c.original c.gated d)) → AllByRecursion P (half_of c.original c.gated s.plan half)
     all_in_half P each =
-        All-append P (replicate r.turn x) (replicate (f - r.turn) y) (all_replicate P r.turn x (each r.front))
-        (all_replicate P (f - r.turn) y (each (other_side r.front)))
+        all_row P x y (each r.front) (each (other_side r.front)) r.turn (f - r.turn)
 
   pub rows_placed : (bits : List ℕ)
       → Placed s.original.inputs s.original.flops s.original.outputs bits (half_of c.original c.gated s.plan Left) (half_of c.original c.gated s.plan Right)

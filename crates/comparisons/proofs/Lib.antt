@@ -1,3 +1,4 @@
+pub mod Repeats
 pub mod Sequences
 pub mod RulesHold
 pub mod Sized

@@ -1,9 +1,10 @@
 -- The four rules hold of any two machines.
-use Rattle.std.proofs.Common.{◌≡◌, ℕ, zero, suc, ◌+◌, ◌-◌, ◌<◌, ◌≤◌, List, [], ◌∷◌, ◌++◌, length, replicate, sym, refl, ap, ◌∙◌, subst, ap₂, append_assoc, arith, length-append}
+use Rattle.std.proofs.Common.{◌≡◌, ℕ, zero, suc, ◌+◌, ◌-◌, ◌<◌, ◌≤◌, List, [], ◌∷◌, ◌++◌, replicate, sym, refl, ap, ◌∙◌, subst, append_assoc, arith}
 use lib.ListN.{replicate-append-replicate, length-replicate}
 use Rattle.comparisons.specs.Machine as spec
 use Rattle.comparisons.specs.Machine.{Machine, Any, output_at}
 use Rattle.comparisons.specs.Rules.{Rules}
+use Rattle.comparisons.proofs.Repeats.{length_row}
 use Rattle.comparisons.proofs.Sequences.{rest, outputs, final, Equal, Reached, to_sequence, reached_along}
 
 module _ {W : Type 0} where
@@ -140,13 +141,10 @@ module _ {S W Y : Type 0} where
         (λ u i. rw h.1 (rule_2 n k k≥1 equal (suc u) (final (replicate n a) s ws) (s, (ws, refl)) (later n ws) u (omega arith)))
         t (omega arith)
 
-  length_two : (n k : ℕ) (a b : Machine S W Y) → length (replicate n a ++ replicate k b) ≡ n + k
-  length_two n k a b = length-append (replicate n a) (replicate k b) ∙ ap₂ ◌+◌ (length-replicate n a) (length-replicate k b)
-
   -- n cycles of one machine and k of another against n + k of a third, on lists
   against : (n k : ℕ) (a b c : Machine S W Y) → spec.Equal Any Any (replicate n a ++ replicate k b) (replicate (n + k) c)
       → Equal Any (replicate n a ++ replicate k b) (replicate (n + k) c)
-  against n k a b c = to_sequence Any (replicate n a ++ replicate k b) (replicate (n + k) c) (length_two n k a b ∙ sym (length-replicate (n + k) c))
+  against n k a b c = to_sequence Any (replicate n a ++ replicate k b) (replicate (n + k) c) (length_row a b n k ∙ sym (length-replicate (n + k) c))
 
   pub rules : (a b : Machine S W Y) (Start : S → Type 0) → Rules Start a b
   rules a b Start = record {
@@ -159,5 +157,5 @@ module _ {S W Y : Type 0} where
     rule_4 = λ n k k≥1 equal s r ws t.
         rule_4 a b n (k - 1)
         (step_equal a b n k k≥1 (to_sequence Any (replicate n b ++ replicate k a) (replicate (n + 1) b ++ replicate (k - 1) a)
-        (length_two n k b a ∙ omega arith ∙ sym (length_two (n + 1) (k - 1) b a)) equal)) t s (reached_along (ws 0) Any Any b n s r) ws;
+        (length_row b a n k ∙ omega arith ∙ sym (length_row b a (n + 1) (k - 1))) equal)) t s (reached_along (ws 0) Any Any b n s r) ws;
   }

@@ -2,13 +2,14 @@
 use Rattle.std.proofs.Common.{◌≡◌, ℕ, zero, suc, ◌+◌, ◌-◌, ◌*◌, ◌/◌, ◌%◌, ◌<◌, ◌≤◌, Bool, true, false, not, ◌&&◌, ◌||◌, ◌↔◌, List, [], ◌∷◌, ◌++◌, map, length, get_or, sym, refl, ap, ◌∙◌, subst, ap₂, inl, inr, mul-le-mul_right, arith, length-append}
 use Rattle.std.specs.List.{range_with_len, AllByRecursion}
 use Rattle.std.proofs.lemmas.List.{map-append, length-map, get_or_append_left, get_or_past}
-use Rattle.std.proofs.ByRecursion.{All-append}
-use Rattle.std.proofs.lemmas.Bool.{false≢true, or_cases, or_parts, cases_lt}
+use Rattle.std.proofs.lemmas.Bool.{false≢true, false_from_ne_true, or_cases, or_parts, cases_lt}
+use Rattle.std.proofs.Math.Bool.{or-false}
 use Rattle.circuits.specs.declared.counts.Counts.{Counts}
 use Rattle.circuits.specs.Net.{Net, first, turned, before, value, gate_values, values}
 use Rattle.circuits.proofs.Mapped.{map_twice, get_or_mapped}
 use Rattle.comparisons.specs.Machine.{machine, Held, FitsPins}
 use Rattle.comparisons.specs.Clauses.{negated, holds, holds_in, Satisfies, Refutable, off, named, vars, gate_clauses, names, next_names, row_clauses, row_results, gate_count, difference_clauses, pin_literals, start, input, left_gates, right_gates, given_clauses}
+use Rattle.comparisons.proofs.Repeats.{all_append, all_parts}
 use Rattle.comparisons.proofs.Sequences.{rest, outputs, final, Equal}
 use Rattle.comparisons.proofs.Sized.{Sized, length_first, first_whole, get_or_first}
 
@@ -76,10 +77,6 @@ module _ (v : ℕ → Bool) where
       let h = holds_var v z in cc
 
 -- satisfied
-
-pub both : {A : Type 0} (P : A → Type 0) (xs ys : List A) → AllByRecursion P (xs ++ ys) → AllByRecursion P xs × AllByRecursion P ys
-both P [] ys h = (tt, h)
-both P (x ∷ xs) ys (p, h) = let r = both P xs ys h in ((p, r.0), r.1)
 
 gate_holds : (p x y : Bool) → p ≡ (x && y) → ((not p || (x || false)) ≡ true) × ((not p || (y || false)) ≡ true) × ((p || (not x || (not y || false))) ≡ true)
 gate_holds true true true e = (refl, refl, refl)
@@ -214,11 +211,11 @@ module _ (v : ℕ → Bool) (low : v 1 ≡ false) where
       subst (λ x. Satisfies v (row_clauses row s' (rest ws) (z + length gates)) ↔ Says v (z + length gates) (row_values row x (λ t. h v (ws (suc t)))))
       (cycle_gives net s (ws 0) z said net.nexts) (row_say row s' (rest ws) (z + length gates)) in (
         λ sat.
-            let (here, then) = both (λ c. holds_in v c ≡ true) (gate_clauses gates (before off net.counts s (ws 0)) z) (row_clauses row s' (rest ws) (z + length gates)) sat in
+            let (here, then) = all_parts (λ c. holds_in v c ≡ true) (gate_clauses gates (before off net.counts s (ws 0)) z) (row_clauses row s' (rest ws) (z + length gates)) sat in
             let said = now.0 here in parts.1 (said, (more said).0 then),
         λ all.
             let (said, then) = parts.0 all in
-            All-append (λ c. holds_in v c ≡ true) (gate_clauses gates (before off net.counts s (ws 0)) z) (row_clauses row s' (rest ws) (z + length gates))
+            all_append (λ c. holds_in v c ≡ true) (gate_clauses gates (before off net.counts s (ws 0)) z) (row_clauses row s' (rest ws) (z + length gates))
             (now.1 said) ((more said).1 then),
       )
 
@@ -458,18 +455,6 @@ length_results inputs flops outs (net ∷ row) (f, fits) x ws l =
     let more = length_results inputs flops outs row fits x' (rest ws) (length-map net.nexts (value (values net x (ws 0))) ∙ f.nexts_are) in
     omega (arith, more, length-append ((machine net).out x (ws 0)) (results row x' (rest ws)), length-map net.outs (value (values net x (ws 0))), f.outs_are)
 
-low_forced : (b : Bool) → (not b || false) ≡ true → b ≡ false
-low_forced true e = sym e
-low_forced false e = refl
-
-pub or_false : (b : Bool) → (b || false) ≡ b
-or_false true = refl
-or_false false = refl
-
-pub false_else : (b : Bool) → (b ≡ true → ⊥) → b ≡ false
-false_else true f = absurd (f refl)
-false_else false f = refl
-
 abbrev pub pin_clauses : List ℕ → List (List ℕ)
 pin_clauses pins = map (λ l. l ∷ []) (pin_literals pins 2)
 
@@ -509,7 +494,7 @@ module _ (v : ℕ → Bool) where
         λ a. let (here, there) = held_parts 0 pins z a in (ap (λ x. x || false) e ∙ low.1 here, more.1 there),
       )
   pins_hold (suc zero ∷ pins) z =
-      let e = or_false (holds v (2 * z)) ∙ holds_var v z in
+      let e = or-false (holds v (2 * z)) ∙ holds_var v z in
       let more = pins_hold pins (suc z) in (
         λ s. held_more 1 pins z (sym e ∙ s.0) (more.0 s.1),
         λ a. let (here, there) = held_parts 1 pins z a in (e ∙ here, more.1 there),
@@ -536,7 +521,7 @@ module _ (inputs flops outs : ℕ) (pins : List ℕ) (left right : List Net)
     (fl : AllByRecursion (Sized inputs flops outs) left) (fr : AllByRecursion (Sized inputs flops outs) right) (l : length left ≡ length right) (size : length pins ≤ flops) where
   refuted : Equal (FitsPins pins) (map machine left) (map machine right) → Refutable (given_clauses inputs flops (pin_literals pins 2) left right)
   refuted equal v (first-clause, sat) =
-      let low = low_forced (v 1) first-clause in
+      let low = (pin_low (v 1)).0 first-clause in
       let s = start inputs flops in
       let i = input inputs flops in
       let z = 2 + flops + length left * inputs in
@@ -549,10 +534,10 @@ module _ (inputs flops outs : ℕ) (pins : List ℕ) (left right : List Net)
       let C = difference_clauses us ws d in
       let D = vars (length us) d ∷ [] in
       let P : List ℕ → Type 0 = λ c. holds_in v c ≡ true in
-      let (abcd, in-pins) = both P (A ++ B ++ C ++ D) (pin_clauses pins) sat in
-      let (abc, in-d) = both P (A ++ B ++ C) D abcd in
-      let (ab, in_c) = both P (A ++ B) C abc in
-      let (in-a, in_b) = both P A B ab in
+      let (abcd, in-pins) = all_parts P (A ++ B ++ C ++ D) (pin_clauses pins) sat in
+      let (abc, in-d) = all_parts P (A ++ B ++ C) D abcd in
+      let (ab, in_c) = all_parts P (A ++ B) C abc in
+      let (in-a, in_b) = all_parts P A B ab in
       let x = h v s in
       let us'' : ℕ → List Bool = λ t. h v (i t) in
       let pinned = fits_move pins flops size (λ j. v (2 + j)) (λ j. get_or x j false) (λ j b. sym (start_bit v inputs flops j b)) ((pins_hold v pins 2).0 in-pins) in
@@ -614,11 +599,11 @@ module _ (inputs flops outs : ℕ) (pins : List ℕ) (left right : List Net)
       let D = vars (length us) d ∷ [] in
       let P : List ℕ → Type 0 = λ c. holds_in v c ≡ true in
       let none : holds_in v (vars (length us) d) ≡ false
-      = false_else (holds_in v (vars (length us) d)) (λ some-differ. refutable v (
+      = false_from_ne_true (holds_in v (vars (length us) d)) (λ some-differ. refutable v (
         rw low refl,
-        All-append P (A ++ B ++ C ++ D) (pin_clauses pins)
-            (All-append P (A ++ B ++ C) D
-            (All-append P (A ++ B) C (All-append P A B ((row_say v low left x i z).1 w.says_left) ((row_say v low right x i y).1 w.says_right)) made.0)
+        all_append P (A ++ B ++ C ++ D) (pin_clauses pins)
+            (all_append P (A ++ B ++ C) D
+            (all_append P (A ++ B) C (all_append P A B ((row_say v low left x i z).1 w.says_left) ((row_say v low right x i y).1 w.says_right)) made.0)
             (some-differ, tt))
             ((pins_hold v pins 2).1 (fits_move pins flops size (λ j. get_or s j false) (λ j. v (2 + j)) (λ j b. sym (says_at v 2 s' a0 j (omega (arith, length_first false flops s)) ∙ get_or_first false flops s j b)) pinned)),
       )) in

@@ -1,9 +1,7 @@
 -- Equal comparisons make the verdict of their rule true, and their clauses decide whether they are equal.
-use Rattle.std.proofs.Common.{◌≡◌, ℕ, zero, suc, ◌+◌, ◌-◌, ◌≤◌, Bool, List, [], ◌∷◌, ◌++◌, map, length, replicate, sym, refl, ap, ◌∙◌, ap₂, subst₂, arith, length-append}
+use Rattle.std.proofs.Common.{◌≡◌, ℕ, ◌+◌, ◌-◌, ◌≤◌, Bool, List, [], ◌∷◌, ◌++◌, map, length, replicate, sym, refl, ◌∙◌, subst₂, arith}
 use lib.ListN.{length-replicate}
 use Rattle.std.specs.List.{AllByRecursion}
-use Rattle.std.proofs.lemmas.List.{map-append}
-use Rattle.std.proofs.ByRecursion.{All-append}
 use Rattle.circuits.specs.Net.{Net, Bounded}
 use Rattle.comparisons.specs.declared.rule.Rule.{Rule}
 use Rattle.comparisons.specs.declared.rule.Rule.TheVariants.{Everywhere, AfterOriginal, FromPins, AfterGated}
@@ -13,23 +11,13 @@ use Rattle.comparisons.specs.Table.{Comparison, row, comparisons, DeepEnough, Al
 use Rattle.comparisons.specs.Clauses.{pin_literals, formula}
 use Rattle.comparisons.specs.Places.{Placed}
 use Rattle.comparisons.specs.Laws.{ClausesDecide, Comparable, Compares}
+use Rattle.comparisons.proofs.Repeats.{all_replicate, all_row, length_row, map_replicate, map_row}
 use Rattle.comparisons.proofs.Sequences.{Equal, to_list, all_any}
 use Rattle.comparisons.proofs.RulesHold.{rules}
 use Rattle.comparisons.proofs.Sized.{Sized}
 use Rattle.comparisons.proofs.Sizes.{few_variables, length_pins}
 use Rattle.comparisons.proofs.Lengths.{lengths_agree, clauses_sound}
 use Rattle.comparisons.proofs.Numbered.{placed, nets_named, bits_named, pins_placed}
-
-map_replicate : {X Y : Type 0} (f : X → Y) (n : ℕ) (x : X) → map f (replicate n x) ≡ replicate n (f x)
-map_replicate f zero x = refl
-map_replicate f (suc n) x = ap (λ r. f x ∷ r) (map_replicate f n x)
-
-all_replicate : {X : Type 0} (P : X → Type 0) (n : ℕ) (x : X) → P x → AllByRecursion P (replicate n x)
-all_replicate P zero x p = tt
-all_replicate P (suc n) x p = (p, all_replicate P n x p)
-
-map_row : (a b : Net) (n k : ℕ) → map machine (row n a k b) ≡ replicate n (machine a) ++ replicate k (machine b)
-map_row a b n k = map-append machine (replicate n a) (replicate k b) ∙ ap₂ ◌++◌ (map_replicate machine n a) (map_replicate machine k b)
 
 -- Rows that fit each other, of at most so many cycles.
 
@@ -43,12 +31,6 @@ pub record Fit (inputs flops outs most : ℕ) (c : Comparison) : Type 0 where
   pub short : length c.left ≤ most
   pub left_bounded : AllByRecursion Bounded c.left
   pub right_bounded : AllByRecursion Bounded c.right
-
-all_row : (P : Net → Type 0) (x y : Net) → P x → P y → (n k : ℕ) → AllByRecursion P (row n x k y)
-all_row P x y px py n k = All-append P (replicate n x) (replicate k y) (all_replicate P n x px) (all_replicate P k y py)
-
-length_row : (x y : Net) (n k : ℕ) → length (row n x k y) ≡ n + k
-length_row x y n k = length-append (replicate n x) (replicate k y) ∙ ap₂ ◌+◌ (length-replicate n x) (length-replicate k y)
 
 module _ (a b : Net) (ba : Bounded a) (bb : Bounded b) (fb : Sized a.counts.inputs a.counts.flops a.counts.outputs b) where
   abbrev I : ℕ
@@ -163,9 +145,6 @@ listed Start left right l = to_list [] Start Any left right l
 unpinned : (left right : List (Machine (List Bool) (List Bool) (List Bool))) → Equal (FitsPins []) left right → Equal Any left right
 unpinned left right equal s p ws = equal s (λ j. tt) ws
 
-two : (x y : Net) (n k : ℕ) → length (replicate n (machine x) ++ replicate k (machine y)) ≡ n + k
-two x y n k = length-append (replicate n (machine x)) (replicate k (machine y)) ∙ ap₂ ◌+◌ (length-replicate n (machine x)) (length-replicate k (machine y))
-
 module _ (a b : Net) where
   abbrev Total : List Net → List Net → Type 0
   Total left right = Equal (FitsPins []) (map machine left) (map machine right)
@@ -174,8 +153,8 @@ module _ (a b : Net) where
   against : (x y z : Net) (n k m : ℕ) → n + k ≡ m → Total (row n x k y) (replicate m z)
       → spec.Equal Any Any (replicate n (machine x) ++ replicate k (machine y)) (replicate m (machine z))
   against x y z n k m l e =
-      listed Any (replicate n (machine x) ++ replicate k (machine y)) (replicate m (machine z)) (two x y n k ∙ l ∙ sym (length-replicate m (machine z)))
-      (unpinned (replicate n (machine x) ++ replicate k (machine y)) (replicate m (machine z)) (subst₂ (Equal (FitsPins [])) (map_row x y n k) (map_replicate machine m z) e))
+      listed Any (replicate n (machine x) ++ replicate k (machine y)) (replicate m (machine z)) (length_row (machine x) (machine y) n k ∙ l ∙ sym (length-replicate m (machine z)))
+      (unpinned (replicate n (machine x) ++ replicate k (machine y)) (replicate m (machine z)) (subst₂ (Equal (FitsPins [])) (map_row machine x y n k) (map_replicate machine m z) e))
 
   -- a state that is reached, on inputs of any lengths
   any_reached : (m : Machine (List Bool) (List Bool) (List Bool)) (Start Input : List Bool → Type 0) (n : ℕ) (s : List Bool)
@@ -195,9 +174,9 @@ module _ (a b : Net) where
   true_verdict AfterGated n k deep (e, x) s p =
       (rules (machine a) (machine b) Any).rule_4 n k deep
       (listed Any (replicate n (machine b) ++ replicate k (machine a)) (replicate (n + 1) (machine b) ++ replicate (k - 1) (machine a))
-      (two b a n k ∙ omega arith ∙ sym (two b a (n + 1) (k - 1)))
+      (length_row (machine b) (machine a) n k ∙ omega arith ∙ sym (length_row (machine b) (machine a) (n + 1) (k - 1)))
       (unpinned (replicate n (machine b) ++ replicate k (machine a)) (replicate (n + 1) (machine b) ++ replicate (k - 1) (machine a))
-      (subst₂ (Equal (FitsPins [])) (map_row b a n k) (map_row b a (n + 1) (k - 1)) e)))
+      (subst₂ (Equal (FitsPins [])) (map_row machine b a n k) (map_row machine b a (n + 1) (k - 1)) e)))
       s (any_reached (machine b) (Bits b.counts.flops) (Bits b.counts.inputs) n s p)
 
 pub sized_like : (rule : Rule) (a b : Net) → Bounded b → Alike rule a b → Sized a.counts.inputs a.counts.flops a.counts.outputs b
