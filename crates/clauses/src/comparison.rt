@@ -3,7 +3,7 @@ ghost use Rattle.std.specs.Prelude.{◌≡◌, ◌+◌, ◌*◌, ◌<◌, ◌≤
 ghost use Rattle.comparisons.specs.Opening as opening;
 
 use crate::fixed::Fixed;
-use crate::literal::{difference_literal, inverted, negation};
+use crate::literal::{difference_literal, gate_literal, inverted};
 use crate::plan::{Half, Plan, Side};
 use crate::running::Running;
 use crate::shape::{Shape, Spot};
@@ -26,9 +26,15 @@ impl<'a, O: Circuit, G: Circuit> Model for Comparison<'a, O, G> {
 
     ghost Value = { Compared };
 
-    ghost view = { λ c. record { original = O.Circuit.meaning c.original.now; gated = G.Circuit.meaning c.gated.now; shape = c.shape; fixed = c.fixed } };
+    ghost view = { λ c. record {
+      original = O.Circuit.meaning c.original.now;
+      gated = G.Circuit.meaning c.gated.now;
+      shape = c.shape;
+      fixed = c.fixed;
+    } };
 
-    ghost invariant = { λ c. AreSizes (O.Circuit.meaning c.original.now).counts (G.Circuit.meaning c.gated.now).counts c.fixed c.shape };
+    ghost invariant = { λ c. let a = O.Circuit.meaning c.original.now in let b = G.Circuit.meaning c.gated.now in
+        AreSizes a.counts b.counts c.fixed c.shape };
 }
 
 pub(crate) fn same_sizes(a: Counts, b: Counts) -> bool
@@ -46,8 +52,10 @@ impl<'a, O: Circuit, G: Circuit> Comparison<'a, O, G> {
 
     // The comparison by a plan that fixes these start bits, where the circuits are of the same sizes and the plan is in time.
     pub(crate) fn new(original: &'a O, gated: &'a G, plan: Plan, fixed: Fixed) -> Option<Self>
-        ensures some { IsSome result ↔ IsTrue (opening.same_sizes (O.Circuit.meaning original.now).counts (G.Circuit.meaning gated.now).counts && in_time plan) }
-        ensures of { IfSome result (λ c. (c.original ≡ O.Circuit.meaning original.now) × (c.gated ≡ G.Circuit.meaning gated.now) × (c.shape.plan ≡ plan) × (c.fixed ≡ fixed)) }
+        ensures some { let a = O.Circuit.meaning original.now in let b = G.Circuit.meaning gated.now in
+            IsSome result ↔ IsTrue (opening.same_sizes a.counts b.counts && in_time plan) }
+        ensures of { let a = O.Circuit.meaning original.now in let b = G.Circuit.meaning gated.now in
+            IfSome result (λ c. (c.original ≡ a) × (c.gated ≡ b) × (c.shape.plan ≡ plan) × (c.fixed ≡ fixed)) }
     {
         let a = original.counts();
         let b = gated.counts();
@@ -111,23 +119,17 @@ impl<'a, O: Circuit, G: Circuit> Comparison<'a, O, G> {
     }
 
     // Literal i of clause `part` about a gate.
+    #[tactic(auto, using(circuits::proofs::Lookups::gate_low))]
     fn gate_literal(&self, half: Half, spot: Spot, part: u32, i: u32) -> u32
         requires early { spot.cycle < self.now.shape.plan.cycles }
         requires low { spot.at ≤ 8192 }
-        requires three_parts { part < 3 }
         ensures { result ≡ slice_index (gate_clause_of self.now half spot part) i }
     {
+        let variable = self.shape.gate_variable(half, spot);
         let Gate { left, right } = self.running(half, spot.cycle).gate(spot.at);
-        let own = 2 * self.shape.gate_variable(half, spot);
-        match (part, i) {
-            (0, 0) | (1, 0) => own + 1,
-            (0, 1) => self.named(half, spot.cycle, left),
-            (1, 1) => self.named(half, spot.cycle, right),
-            (2, 0) => own,
-            (2, 1) => negation(self.named(half, spot.cycle, left)),
-            (2, 2) => negation(self.named(half, spot.cycle, right)),
-            _ => 0,
-        }
+        let left = self.named(half, spot.cycle, left);
+        let right = self.named(half, spot.cycle, right);
+        gate_literal(variable, left, right, part, i)
     }
 
     // Literal i of clause `part` about the difference of an output, and of a final bit.

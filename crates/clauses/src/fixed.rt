@@ -7,7 +7,7 @@ use std::marker::Model;
 const FLOPS: usize = MOST_FLOPS as usize;
 
 // The literals of the bits, in order.
-#[derive(Drop)]
+#[derive(Debug, Drop)]
 pub struct Fixed {
     // those past `count` mean nothing
     literals: [u32; FLOPS],

@@ -1,10 +1,10 @@
-// Literals of clauses: 2v is variable v, and 2v + 1 its negation.
+// Literals of clauses: 2v is variable v, and 2v + 1 its negation. A clause is written out where a literal of it is asked for.
 ghost use Rattle.std.specs.Prelude.{◌≡◌, ◌<◌, ◌^◌, slice_index};
 ghost use Rattle.circuits.specs.Net.{turned};
 ghost use Rattle.comparisons.specs.Clauses.{negated};
-ghost use Rattle.comparisons.specs.Places.{difference_clause};
+ghost use Rattle.comparisons.specs.Places.{gate_clause, difference_clause};
 
-pub(crate) fn negation(literal: u32) -> u32
+fn negation(literal: u32) -> u32
     ensures { result ≡ negated literal }
 {
     literal ^ 1
@@ -17,15 +17,34 @@ pub(crate) fn inverted(literal: u32, odd: u32) -> u32
     if odd == 0 { literal } else { negation(literal) }
 }
 
-// Literal i of clause `part` about the difference of two literals, which has a variable.
+// Literal i of a clause; past the end 0.
+fn literal_at(clause: &[u32], i: u32) -> u32
+    ensures { result ≡ slice_index clause.now i }
+{
+    clause.get(i as usize).copied().unwrap_or(0)
+}
+
+// Literal i of clause `part` about a gate with this variable, whose operands are two literals.
+pub(crate) fn gate_literal(variable: u32, left: u32, right: u32, part: u32, i: u32) -> u32
+    requires { variable < 2 ^ 31 }
+    ensures { result ≡ slice_index (gate_clause part variable left right) i }
+{
+    let own = 2 * variable;
+    match part {
+        0 => literal_at(&[own + 1, left], i),
+        1 => literal_at(&[own + 1, right], i),
+        _ => literal_at(&[own, negation(left), negation(right)], i),
+    }
+}
+
+// Literal i of clause `part` about the difference of two literals, which has this variable.
 pub(crate) fn difference_literal(variable: u32, left: u32, right: u32, part: u32, i: u32) -> u32
     requires { variable < 2 ^ 31 }
     ensures { result ≡ slice_index (difference_clause part variable left right) i }
 {
-    match i {
-        0 => 2 * variable + 1,
-        1 => inverted(left, part),
-        2 => inverted(right, part),
-        _ => 0,
+    let own = 2 * variable;
+    match part {
+        0 => literal_at(&[own + 1, left, right], i),
+        _ => literal_at(&[own + 1, negation(left), negation(right)], i),
     }
 }
