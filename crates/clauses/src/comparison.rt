@@ -1,6 +1,9 @@
 // A comparison of two circuits of any kinds, whose clauses are answered by number and place. No list is built.
-ghost use Rattle.std.specs.Prelude.{◌≡◌, ◌+◌, ◌*◌, ◌<◌, ◌≤◌, length, slice_index};
+ghost use Rattle.std.specs.Prelude.{◌≡◌, ◌<◌, ◌≤◌, ◌↔◌, ◌&&◌, IsTrue, IsSome, IfSome, slice_index};
+ghost use Rattle.comparisons.specs.Clauses.{named as naming};
 ghost use Rattle.comparisons.specs.Opening as opening;
+ghost use Rattle.clauses.specs.Plans.{in_time};
+ghost use Rattle.clauses.specs.Asked.{runs, OfCycle, names_in, output_of, final_of, gate_clause_of, output_clause_of, final_clause_of};
 
 use crate::fixed::Fixed;
 use crate::literal::{difference_literal, gate_literal, inverted};
@@ -44,12 +47,6 @@ pub(crate) fn same_sizes(a: Counts, b: Counts) -> bool
 }
 
 impl<'a, O: Circuit, G: Circuit> Comparison<'a, O, G> {
-    ghost use Rattle.std.specs.Prelude.{◌≡◌, ◌+◌, ◌*◌, ◌<◌, ◌≤◌, ◌↔◌, ◌&&◌, IsTrue, IsSome, IfSome, length, slice_index};
-    ghost use Rattle.comparisons.specs.Opening as opening;
-    ghost use Rattle.comparisons.specs.Clauses.{named as naming};
-    ghost use Rattle.clauses.specs.Plans.{in_time};
-    ghost use Rattle.clauses.specs.Asked.{runs, OfCycle, names_in, output_of, final_of, gate_clause_of, output_clause_of, final_clause_of};
-
     // The comparison by a plan that fixes these start bits, where the circuits are of the same sizes and the plan is in time.
     pub(crate) fn new(original: &'a O, gated: &'a G, plan: Plan, fixed: Fixed) -> Option<Self>
         ensures some { let a = O.Circuit.meaning original.now in let b = G.Circuit.meaning gated.now in

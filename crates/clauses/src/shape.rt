@@ -48,7 +48,7 @@ pub enum Place {
 }
 
 impl Shape {
-    ghost use Rattle.std.specs.Prelude.{◌≡◌, ◌+◌, ◌*◌, ◌<◌, ◌≤◌};
+    ghost use Rattle.std.specs.Prelude.{◌+◌, ◌*◌, ◌<◌};
     ghost use Rattle.clauses.specs.Shapes as spec;
 
     // How many gates the circuit of a side has.

@@ -2,6 +2,7 @@
 use Rattle.std.proofs.Common.{◌≡◌, ℕ, zero, suc, ◌+◌, ◌-◌, ◌*◌, ◌/◌, ◌%◌, ◌<◌, ◌≤◌, Bool, true, false, not, ◌&&◌, ◌||◌, ◌↔◌, List, [], ◌∷◌, ◌++◌, map, length, get_or, sym, refl, ap, ◌∙◌, subst, ap₂, inl, inr, mul-le-mul_right, arith, length-append}
 use Rattle.std.specs.List.{range_with_len, AllByRecursion}
 use Rattle.std.proofs.lemmas.List.{map-append, length-map, get_or_append_left, get_or_past}
+use Rattle.std.proofs.lemmas.Bool.Decides.{nat_tests}
 use Rattle.std.proofs.lemmas.Bool.{false≢true, false_from_ne_true, or_cases, or_parts, cases_lt}
 use Rattle.std.proofs.Math.Bool.{or-false}
 use Rattle.circuits.specs.declared.counts.Counts.{Counts}
@@ -79,21 +80,10 @@ module _ (v : ℕ → Bool) where
 -- satisfied
 
 gate_holds : (p x y : Bool) → p ≡ (x && y) → ((not p || (x || false)) ≡ true) × ((not p || (y || false)) ≡ true) × ((p || (not x || (not y || false))) ≡ true)
-gate_holds true true true e = (refl, refl, refl)
-gate_holds true true false e = (refl, sym e, refl)
-gate_holds true false true e = (sym e, refl, refl)
-gate_holds true false false e = (sym e, sym e, refl)
-gate_holds false true true e = (refl, refl, e)
-gate_holds false true false e = (refl, refl, refl)
-gate_holds false false y e = (refl, refl, refl)
+gate_holds p x y e = grind (arith, nat_tests)
 
 gate_held : (p x y : Bool) → (not p || (x || false)) ≡ true → (not p || (y || false)) ≡ true → (p || (not x || (not y || false))) ≡ true → p ≡ (x && y)
-gate_held true true true a b c = refl
-gate_held true true false a b c = sym b
-gate_held true false y a b c = sym a
-gate_held false true true a b c = c
-gate_held false true false a b c = refl
-gate_held false false y a b c = refl
+gate_held p x y a b c = grind (arith, nat_tests)
 
 abbrev pub differ : Bool → Bool → Bool
 differ true y = not y
@@ -106,21 +96,10 @@ differs (x ∷ xs) (y ∷ ys) = differ x y ∷ differs xs ys
 
 differ_holds : (p x y : Bool) → p ≡ differ x y
     → ((not p || (x || (y || false))) ≡ true) × ((not p || (not x || (not y || false))) ≡ true) × (p ≡ false → x ≡ y)
-differ_holds true true true e = (refl, sym e, λ f. refl)
-differ_holds true true false e = (refl, refl, λ f. f)
-differ_holds true false true e = (refl, refl, λ f. sym f)
-differ_holds true false false e = (sym e, refl, λ f. refl)
-differ_holds false true true e = (refl, refl, λ f. refl)
-differ_holds false true false e = (refl, refl, λ f. sym e)
-differ_holds false false true e = (refl, refl, λ f. e)
-differ_holds false false false e = (refl, refl, λ f. refl)
+differ_holds p x y e = grind (arith, nat_tests)
 
 differ_held : (p x y : Bool) → p ≡ true → (not p || (x || (y || false))) ≡ true → (not p || (not x || (not y || false))) ≡ true → x ≡ y → ⊥
-differ_held false x y t a b e = false≢true t
-differ_held true true true t a b e = false≢true b
-differ_held true true false t a b e = false≢true (sym e)
-differ_held true false true t a b e = false≢true e
-differ_held true false false t a b e = false≢true a
+differ_held p x y t a b e = grind (arith, nat_tests)
 
 pub length_gate_values : (gates : List (ℕ × ℕ)) (nets : List Bool) → length (gate_values gates nets) ≡ length gates
 length_gate_values [] nets = refl
@@ -468,8 +447,7 @@ fits_move pins flops size f g same held j =
     ]
 
 pin_low : (b : Bool) → (not b || false) ≡ true ↔ b ≡ false
-pin_low true = (λ e. sym e, λ e. sym e)
-pin_low false = (λ e. refl, λ e. refl)
+pin_low b = (λ e. grind (arith, nat_tests), λ e. grind (arith, nat_tests))
 
 module _ (v : ℕ → Bool) where
   abbrev pub PinsHeld : List ℕ → ℕ → Type 0
