@@ -1,7 +1,8 @@
 -- What the checks of opening decide.
 use Rattle.std.proofs.Common.{◌≡◌, ℕ, ◌+◌, ◌≤◌, Bool, true, false, not, ◌&&◌, eqb, leb, List, [], ◌∷◌, map, Some, None, Option, sym, refl, ap, ◌∙◌, ap₂, inl, inr, arith}
 use Rattle.std.specs.List.{AllByRecursion}
-use Rattle.std.proofs.lemmas.Bool.{false≢true, both_ways, cases_Bool, and_parts, and_from, and_left, and_right, eqb-true, eq-eqb, leb-true, le-leb, not-false, not_from_true}
+use Rattle.std.proofs.lemmas.Bool.Decides.{nat_tests}
+use Rattle.std.proofs.lemmas.Bool.{both_ways, cases_Bool, and_parts, and_from, and_left, and_right, eqb-true, leb-true, not-false, not_from_true}
 use Rattle.circuits.specs.Checks.{first_due}
 use Rattle.circuits.specs.Net.{Net, Bounded}
 use Rattle.circuits.proofs.Checking.{all_passed, none_due}
@@ -14,46 +15,45 @@ use Rattle.comparisons.specs.Opening.{rule_of, same_sizes, deep_enough, in_table
 use Rattle.comparisons.specs.Laws.{Comparable, OpensComparable}
 use Rattle.comparisons.proofs.Verdicts.{compares}
 
-pub same_lists : (xs ys : List ℕ) → same_list xs ys ≡ true → xs ≡ ys
+same_lists : (xs ys : List ℕ) → same_list xs ys ≡ true → xs ≡ ys
 same_lists [] [] e = refl
-same_lists [] (y ∷ ys) e = absurd (false≢true e)
-same_lists (x ∷ xs) [] e = absurd (false≢true e)
+same_lists [] (y ∷ ys) e = cc
+same_lists (x ∷ xs) [] e = cc
 same_lists (x ∷ xs) (y ∷ ys) e =
     let (here, there) = and_parts (eqb x y) (same_list xs ys) e in ap₂ ◌∷◌ (eqb-true x y here) (same_lists xs ys there)
 
-pub same_self : (xs : List ℕ) → same_list xs xs ≡ true
+same_self : (xs : List ℕ) → same_list xs xs ≡ true
 same_self [] = refl
-same_self (x ∷ xs) = and_from (eqb x x) (same_list xs xs) (eq-eqb x x refl) (same_self xs)
+same_self (x ∷ xs) = grind (arith, nat_tests, same_self xs)
 
 deep_true : (rule : Rule) (n k : ℕ) → deep_enough rule n k ≡ true → DeepEnough rule n k
-deep_true Everywhere n k e = leb-true 1 n e
-deep_true AfterOriginal n k e = leb-true 1 k e
-deep_true FromPins n k e = let (x, y) = and_parts (leb 1 n) (leb 1 k) e in (leb-true 1 n x, leb-true 1 k y)
-deep_true AfterGated n k e = leb-true 1 k e
+deep_true Everywhere n k e = grind (arith, nat_tests)
+deep_true AfterOriginal n k e = grind (arith, nat_tests)
+deep_true FromPins n k e = grind (arith, nat_tests)
+deep_true AfterGated n k e = grind (arith, nat_tests)
 
 true_deep : (rule : Rule) (n k : ℕ) → DeepEnough rule n k → deep_enough rule n k ≡ true
-true_deep Everywhere n k d = le-leb 1 n d
-true_deep AfterOriginal n k d = le-leb 1 k d
-true_deep FromPins n k d = and_from (leb 1 n) (leb 1 k) (le-leb 1 n d.0) (le-leb 1 k d.1)
-true_deep AfterGated n k d = le-leb 1 k d
+true_deep Everywhere n k d = grind (arith, nat_tests)
+true_deep AfterOriginal n k d = grind (arith, nat_tests)
+true_deep FromPins n k d = grind (arith, nat_tests)
+true_deep AfterGated n k d = grind (arith, nat_tests)
 
-pub tabled : (n k : ℕ) (rule : Rule) → in_table (Some rule) n k ≡ true → InTable rule n k
+tabled : (n k : ℕ) (rule : Rule) → in_table (Some rule) n k ≡ true → InTable rule n k
 tabled n k rule e =
     let (x, y) = and_parts (deep_enough rule n k) (leb (n + k) 8) e in (deep_true rule n k x, leb-true (n + k) 8 y)
 
-pub in_the_table : (n k : ℕ) (rule : Rule) → InTable rule n k → in_table (Some rule) n k ≡ true
-in_the_table n k rule t = and_from (deep_enough rule n k) (leb (n + k) 8) (true_deep rule n k t.0) (le-leb (n + k) 8 t.1)
+in_the_table : (n k : ℕ) (rule : Rule) → InTable rule n k → in_table (Some rule) n k ≡ true
+in_the_table n k rule t = let deep = true_deep rule n k t.0 in grind (arith, nat_tests)
 
 few_all : (cs : List Comparison) → AllByRecursion (λ (c : Comparison). (formula c).variables ≤ 135681) cs → few_variables (map formula cs) ≡ true
 few_all [] a = refl
-few_all (c ∷ cs) (b, a) =
-    and_from (leb (formula c).variables 262143) (few_variables (map formula cs)) (le-leb (formula c).variables 262143 (omega arith)) (few_all cs a)
+few_all (c ∷ cs) (b, a) = grind (arith, nat_tests, few_all cs a)
 
 pinned_rule : (rule : Rule) → uses_pins (Some rule) ≡ true → rule ≡ FromPins
-pinned_rule Everywhere e = absurd (false≢true e)
-pinned_rule AfterOriginal e = absurd (false≢true e)
+pinned_rule Everywhere e = cc
+pinned_rule AfterOriginal e = cc
 pinned_rule FromPins e = refl
-pinned_rule AfterGated e = absurd (false≢true e)
+pinned_rule AfterGated e = cc
 
 module _ (n k : ℕ) (a b : Net) (ba : Bounded a) (bb : Bounded b) where
   abbrev unlike : Option Rule → Bool
@@ -61,16 +61,12 @@ module _ (n k : ℕ) (a b : Net) (ba : Bounded a) (bb : Bounded b) where
 
   sizes : not (same_sizes a.counts b.counts) ≡ false
       → (a.counts.inputs ≡ b.counts.inputs) × (a.counts.flops ≡ b.counts.flops) × (a.counts.outputs ≡ b.counts.outputs)
-  sizes e =
-      let (i, more) = and_parts (eqb a.counts.inputs b.counts.inputs) (eqb a.counts.flops b.counts.flops && eqb a.counts.outputs b.counts.outputs)
-      (not-false (same_sizes a.counts b.counts) e) in
-      let (l, o) = and_parts (eqb a.counts.flops b.counts.flops) (eqb a.counts.outputs b.counts.outputs) more in
-      (eqb-true a.counts.inputs b.counts.inputs i, eqb-true a.counts.flops b.counts.flops l, eqb-true a.counts.outputs b.counts.outputs o)
+  sizes e = (grind (arith, nat_tests), grind (arith, nat_tests), grind (arith, nat_tests))
 
   -- where the first three checks pass, the rule can compare the circuits
   comparable : (rule : Option Rule) → not (same_sizes a.counts b.counts) ≡ false → not (in_table rule n k) ≡ false → unlike rule ≡ false
       → (r : Rule) × ((rule ≡ Some r) × Comparable r n k a b)
-  comparable None s t p = absurd (false≢true (sym t))
+  comparable None s t p = cc
   comparable (Some r) s t p =
       let (i, l, o) = sizes s in
       let pins : r ≡ FromPins → a.pins ≡ b.pins
@@ -85,18 +81,17 @@ module _ (n k : ℕ) (a b : Net) (ba : Bounded a) (bb : Bounded b) where
   -- and where it can, all checks pass
   sizes_pass : (r : Rule) → Comparable r n k a b → not (same_sizes a.counts b.counts) ≡ false
   sizes_pass r can =
-      not_from_true (same_sizes a.counts b.counts)
-      (and_from (eqb a.counts.inputs b.counts.inputs) (eqb a.counts.flops b.counts.flops && eqb a.counts.outputs b.counts.outputs)
-      (eq-eqb a.counts.inputs b.counts.inputs can.alike.inputs)
-      (and_from (eqb a.counts.flops b.counts.flops) (eqb a.counts.outputs b.counts.outputs) (eq-eqb a.counts.flops b.counts.flops can.alike.flops)
-      (eq-eqb a.counts.outputs b.counts.outputs can.alike.outputs)))
+      let alike = can.alike in
+      let inputs = alike.inputs in
+      let flops = alike.flops in
+      let outputs = alike.outputs in grind (arith, nat_tests)
 
   pins_pass : (r : Rule) → Comparable r n k a b → unlike (Some r) ≡ false
   pins_pass r can =
       elim (cases_Bool (uses_pins (Some r))) [
         | inl t ↦
-            and_right (uses_pins (Some r)) (not (same_list a.pins b.pins))
-            (ap not (ap (same_list a.pins) (sym (can.alike.pins (pinned_rule r t))) ∙ same_self a.pins))
+            let same = ap (same_list a.pins) (sym (can.alike.pins (pinned_rule r t))) ∙ same_self a.pins in
+            and_right (uses_pins (Some r)) (not (same_list a.pins b.pins)) (ap not same)
         | inr f ↦ and_left (uses_pins (Some r)) (not (same_list a.pins b.pins)) f
       ]
 
@@ -113,11 +108,11 @@ module _ (n k : ℕ) (a b : Net) (ba : Bounded a) (bb : Bounded b) where
   -- a check that is told is due, and those before it are not
   told_last : (x y z w : Bool) → first_due ((SizesDiffer, x) ∷ (OutsideTable, y) ∷ (PinsDiffer, z) ∷ (ManyVariables, w) ∷ []) ≡ Some ManyVariables
       → (x ≡ false) × (y ≡ false) × (z ≡ false) × (w ≡ true)
-  told_last true y z w e = let z : ◌≡◌ {A = ℕ} 0 1 = cc in absurd (omega arith)
-  told_last false true z w e = let z : ◌≡◌ {A = ℕ} 0 1 = cc in absurd (omega arith)
-  told_last false false true w e = let z : ◌≡◌ {A = ℕ} 0 1 = cc in absurd (omega arith)
+  told_last true y z w e = cc
+  told_last false true z w e = cc
+  told_last false false true w e = cc
   told_last false false false true e = (refl, refl, refl, refl)
-  told_last false false false false e = let z : ◌≡◌ {A = ℕ} 0 1 = cc in absurd (omega arith)
+  told_last false false false false e = cc
 
   never_last : (rule : Option Rule) → first_due (open_checks a b rule n k) ≡ Some ManyVariables → ⊥
   never_last rule e =
