@@ -1,5 +1,6 @@
 -- What holds of the small circuits is mostly computed.
 use Rattle.std.proofs.Common.{◌≡◌, ℕ, zero, suc, ◌<◌, ◌≤◌, Bool, true, false, not, ◌&&◌, List, [], ◌∷◌, length, get_or, sym, refl, ap, arith}
+use Rattle.std.proofs.lemmas.Bool.Decides.{nat_tests}
 use Rattle.std.proofs.lemmas.Bool.{false≢true}
 use Rattle.circuits.specs.Net.{Net, Bounded, gate_at, gate_literal}
 use Rattle.comparisons.specs.Machine.{outputs, final, machine}
@@ -7,14 +8,7 @@ use Rattle.comparisons.specs.Samples.{Samples, delay, pair, gated_pair, counter,
 
 -- an enable that holds the old value matters only where the old value is put out
 gated : (s x y : Bool) → (x && not (not (x && y) && not (not x && s))) ≡ (x && y)
-gated true true true = refl
-gated true true false = refl
-gated true false true = refl
-gated true false false = refl
-gated false true true = refl
-gated false true false = refl
-gated false false true = refl
-gated false false false = refl
+gated s x y = grind (arith, nat_tests)
 
 pair_equal_on : (s : List Bool) (ws : List (List Bool)) → length ws ≡ 2
     → (outputs (machine gated_pair ∷ machine pair ∷ []) s ws ≡ outputs (machine pair ∷ machine pair ∷ []) s ws)
@@ -26,8 +20,7 @@ pair_equal_on s (w ∷ x ∷ []) l =
 pair_equal_on s (w ∷ x ∷ y ∷ ws) l = absurd (omega arith)
 
 high_only : (x y : Bool) → y ≡ false → (not x && y) ≡ false
-high_only true y e = refl
-high_only false y e = e
+high_only x y e = grind (arith, nat_tests)
 
 counters_start : (s : List Bool) → get_or s 1 false ≡ false → (ws : List (List Bool)) → length ws ≡ 1
     → (outputs (machine at_two ∷ []) s ws ≡ outputs (machine silent ∷ []) s ws) × (final (machine at_two ∷ []) s ws ≡ final (machine silent ∷ []) s ws)
