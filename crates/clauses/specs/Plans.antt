@@ -1,5 +1,5 @@
 -- Plans: which circuit runs in which cycle of a comparison.
-use Rattle.std.specs.Prelude.{ℕ, ◌+◌, ◌-◌, ◌≤◌, Bool, true, false, cond, ◌&&◌, List, [], ◌∷◌, nat_le, nat_lt}
+use Rattle.std.specs.Prelude.{ℕ, ◌+◌, ◌-◌, ◌≤◌, Bool, true, false, if◌then◌else◌, ◌&&◌, List, [], ◌∷◌, nat_le, nat_lt}
 use Rattle.circuits.specs.Net.{Net}
 use Rattle.comparisons.specs.declared.rule.Rule.{Rule}
 use Rattle.comparisons.specs.declared.rule.Rule.TheVariants.{Everywhere, AfterOriginal, FromPins, AfterGated}
@@ -19,7 +19,7 @@ other_side Gated = Original
 
 -- the circuit that runs in cycle t of a row
 abbrev pub side_at : Row → ℕ → Side
-side_at r t = cond (nat_lt t r.turn) r.front (other_side r.front)
+side_at r t = if nat_lt t r.turn then r.front else other_side r.front
 
 -- a row of a plan, and the circuit that runs there in cycle t
 abbrev pub half_row : Plan → Half → Row
@@ -63,7 +63,7 @@ module _ (a b : Net) where
 
   -- the start bits that a plan fixes
   abbrev pub fixed_by : Plan → List ℕ
-  fixed_by p = cond p.pinned (pin_literals a.pins 2) []
+  fixed_by p = if p.pinned then pin_literals a.pins 2 else []
 
 -- rows of 1 to 8 cycles that turn in time
 abbrev pub in_time : Plan → Bool
@@ -84,6 +84,6 @@ abbrev pub planned : Net → Net → Plan → List ℕ → Formula
 planned a b p fixed =
     let I = a.counts.inputs in
     let L = a.counts.flops in
-    cond (same_sizes a.counts b.counts && in_time p)
-    (record { variables = last_variable I L (left_of a b p) (right_of a b p); given = given_clauses I L fixed (left_of a b p) (right_of a b p) })
-    no_formula
+    if same_sizes a.counts b.counts && in_time p
+    then record { variables = last_variable I L (left_of a b p) (right_of a b p); given = given_clauses I L fixed (left_of a b p) (right_of a b p) }
+    else no_formula

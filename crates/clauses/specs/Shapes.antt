@@ -1,5 +1,5 @@
 -- The sizes of a comparison in numbers, as code sees them.
-use Rattle.std.specs.Prelude.{◌≡◌, ℕ, ◌+◌, ◌-◌, ◌*◌, ◌/◌, ◌%◌, ◌<◌, min, cond, ◌&&◌, ◌⊎◌, List, length, Some, None, Option, ◌==◌, nat_le, nat_lt}
+use Rattle.std.specs.Prelude.{◌≡◌, ℕ, ◌+◌, ◌-◌, ◌*◌, ◌/◌, ◌%◌, ◌<◌, min, if◌then◌else◌, ◌&&◌, ◌⊎◌, List, length, Some, None, Option, ◌==◌, nat_le, nat_lt}
 use Rattle.circuits.specs.declared.counts.Counts.{Counts}
 use Rattle.clauses.specs.declared.plan.Side.{Side}
 use Rattle.clauses.specs.declared.plan.Side.TheVariants.{Original, Gated}
@@ -78,15 +78,19 @@ module _ (s : Shape) where
 
   -- the flop that literal x names, if it names one
   abbrev pub flop_of : ℕ → Option ℕ
-  flop_of x = cond (nat_lt s.original.inputs (x / 2) && nat_le (x / 2) (s.original.inputs + s.original.flops)) (Some (x / 2 - (1 + s.original.inputs))) None
+  flop_of x =
+      let I = s.original.inputs in
+      let net = x / 2 in if nat_lt I net && nat_le net (I + s.original.flops) then Some (net - (1 + I)) else None
 
   -- what literal x of cycle t is, unless it names a flop after cycle 0
   abbrev pub own_variable : Half → ℕ → ℕ → ℕ
   own_variable half t net =
-      cond (net == 0) 1
-      (cond (nat_le net s.original.inputs) (1 + s.original.flops + t * s.original.inputs + net)
-      (cond (nat_le net (s.original.inputs + s.original.flops)) (1 + net - s.original.inputs)
-      (gate_variable half (record { cycle = t; at = net - (1 + s.original.inputs + s.original.flops) }))))
+      let I = s.original.inputs in
+      let L = s.original.flops in
+      if net == 0 then 1
+      else (if nat_le net I then 1 + L + t * I + net
+      else (if nat_le net (I + L) then 1 + net - I
+      else gate_variable half (record { cycle = t; at = net - (1 + I + L) })))
 
   abbrev pub own_literal : Half → ℕ → ℕ → ℕ
   own_literal half t x = 2 * own_variable half t (x / 2) + x % 2
@@ -99,7 +103,8 @@ module _ (s : Shape) where
       (spot.cycle < s.plan.cycles) × (spot.at < gates_in half spot.cycle) × (part < 3)
       × (c ≡ 2 + 3 * (gates_ahead half + (gates_before half spot.cycle + spot.at)) + part)
   Stands c (Output spot part) =
-      (spot.cycle < s.plan.cycles) × (spot.at < s.original.outputs) × (part < 2) × (c ≡ 2 + 3 * all_gates + 2 * (spot.cycle * s.original.outputs + spot.at) + part)
+      (spot.cycle < s.plan.cycles) × (spot.at < s.original.outputs) × (part < 2)
+      × (c ≡ 2 + 3 * all_gates + 2 * (spot.cycle * s.original.outputs + spot.at) + part)
   Stands c (Final flop part) = (flop < s.original.flops) × (part < 2) × (c ≡ 2 + 3 * all_gates + 2 * (all_outputs + flop) + part)
   Stands c Differences = c ≡ 2 + 3 * all_gates + 2 * all_differences
   Stands c (Fixed k) = (k < s.fixed) × (c ≡ 3 + 3 * all_gates + 2 * all_differences + k)
