@@ -22,15 +22,15 @@ use Rattle.clauses.specs.Shapes.{AreSizes, gates_on, gates_before}
 use Rattle.clauses.specs.Asked.{Compared, runs}
 use Rattle.clauses.proofs.Gates.{turns}
 
--- a row by one circuit and then by another
+-- how many gates a row has by one circuit and then by another
 
 count_replicate : (n : ℕ) (x : Net) → gate_count (replicate n x) ≡ n * length x.operands
 count_replicate zero x = omega arith
-count_replicate (suc n) x = let more = count_replicate n x in omega arith
+count_replicate (suc n) x = omega (arith, count_replicate n x)
 
 count_append : (xs ys : List Net) → gate_count (xs ++ ys) ≡ gate_count xs + gate_count ys
 count_append [] ys = omega arith
-count_append (x ∷ xs) ys = let more = count_append xs ys in omega arith
+count_append (x ∷ xs) ys = omega (arith, count_append xs ys)
 
 -- its first t cycles
 take_two : {X : Type 0} (n k t : ℕ) (x y : X) → t ≤ n + k → take t (replicate n x ++ replicate k y) ≡ replicate (min t n) x ++ replicate (t - n) y
