@@ -1,4 +1,5 @@
 pub mod Refusals
+pub mod Told
 pub mod Lines
 pub mod Beside
 pub mod Reading

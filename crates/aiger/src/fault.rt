@@ -1,8 +1,13 @@
-ghost use Rattle.std.specs.Prelude.{◌≡◌};
+ghost use Rattle.std.specs.Prelude.{◌≡◌, Some};
 ghost use Rattle.aiger.specs.Refusals as spec;
+ghost use Rattle.aiger.specs.Told.{told_fault};
+
+use circuits::numbered::Numbered;
+use std::error::Error;
+use std::fmt;
 
 // Why a netlist's text is refused.
-#[derive(Clone, Copy)]
+#[derive(Clone, Copy, Debug, PartialEq, Eq)]
 pub enum Refusal {
     // line 1 is malformed
     MalformedHeader,
@@ -21,17 +26,16 @@ pub enum Refusal {
 }
 
 // A refusal, and the line that brought it on; lines count from 1.
-#[derive(Clone, Copy)]
+#[derive(Clone, Copy, Debug, PartialEq, Eq)]
 pub struct ReadFault {
     pub refusal: Refusal,
     pub line: u32,
 }
 
-impl Refusal {
-    // The number by which users know the refusal.
-    pub fn number(self) -> u32
-        ensures { result ≡ spec.number self }
-    {
+impl Numbered for Refusal {
+    ghost number_of = { spec.number };
+
+    fn number(&self) -> u32 {
         match self {
             Refusal::MalformedHeader => 1,
             Refusal::WrongCounts => 2,
@@ -42,7 +46,9 @@ impl Refusal {
             Refusal::FewWords => 7,
         }
     }
+}
 
+impl Refusal {
     // The fault of a line that is refused so.
     pub(crate) fn at(self, line: u32) -> ReadFault
         ensures { result ≡ record { refusal = self; line = line } }
@@ -53,3 +59,15 @@ impl Refusal {
         }
     }
 }
+
+impl fmt::Display for ReadFault {
+    ghost output = { λ fault. Some (told_fault fault) };
+
+    fn fmt<W: fmt::Write>(&self, f: &mut fmt::Formatter<W>) -> fmt::Result {
+        let number = self.refusal.number();
+        let line = self.line;
+        write!(f, "refused {number} line {line}")
+    }
+}
+
+impl Error for ReadFault {}
