@@ -63,7 +63,7 @@ impl<'a> Lines<'a> {
         match self.rest {
             [digit @ b'0'..=b'9', rest @ ..] => {
                 self.rest = rest;
-                Some((*digit - b'0') as u32)
+                Some(u32::from(*digit - b'0'))
             }
             _ => None,
         }
@@ -115,7 +115,7 @@ impl<'a> Lines<'a> {
     fn third(&mut self) -> Option<Option<u32>>
         ensures { beside self.new.rest.now result ≡ spec.third self.old.rest.now }
     {
-        if let Some(()) = self.byte(b'\n') {
+        if self.byte(b'\n').is_some() {
             return Some(None);
         }
         let third = self.field()?;

@@ -2,6 +2,7 @@
 ghost use Rattle.std.specs.Prelude.{◌≡◌, ◌+◌, ◌*◌, ◌<◌, ◌≤◌, true, ◌++◌, length, take, drop, replicate, is_ok, IfOk, Ok, Err, slice_set};
 ghost use Rattle.std.specs.List.{range_with_len};
 ghost use Rattle.circuits.specs.Net.{BoundedCounts, layout, operand_words, room};
+ghost use Rattle.circuits.specs.Pins.{pin_word};
 ghost use Rattle.aiger.specs.Beside.{beside_result, holding, as_words};
 ghost use Rattle.aiger.specs.Reading as spec;
 ghost use Rattle.aiger.specs.Laws.{Laws};
@@ -9,20 +10,19 @@ ghost use Rattle.aiger.specs.Laws.{Laws};
 use crate::fault::{ReadFault, Refusal};
 use crate::lines::{FlopLine, GateLine, Header, Lines};
 use circuits::counts::Counts;
+use circuits::pin::Pin;
 
 fn counts_fit(h: &Header) -> bool
     ensures { result ≡ spec.counts_fit h.now }
 {
-    h.counts.in_bounds() && h.last as u64 == h.counts.last_net()
+    h.counts.in_bounds() && u64::from(h.last) == h.counts.last_net()
 }
 
 fn header_line(lines: &mut Lines, lent: usize) -> Result<Header, ReadFault>
     ensures line { beside_result lines.new.rest.now result ≡ spec.header_line lent lines.old.rest.now }
     ensures fits { IfOk result (λ h. BoundedCounts h.counts × (room h.counts ≤ lent)) }
 {
-    let Some(header) = lines.header() else {
-        return Err(Refusal::MalformedHeader.at(1));
-    };
+    let header = lines.header().ok_or(Refusal::MalformedHeader.at(1))?;
     if !counts_fit(&header) {
         return Err(Refusal::WrongCounts.at(1));
     }
@@ -38,9 +38,7 @@ fn input_line(lines: &mut Lines, i: u32) -> Result<u32, ReadFault>
     ensures { beside_result lines.new.rest.now result ≡ spec.input_line i lines.old.rest.now }
 {
     let line = 2 + i;
-    let Some(literal) = lines.single() else {
-        return Err(Refusal::MalformedLine.at(line));
-    };
+    let literal = lines.single().ok_or(Refusal::MalformedLine.at(line))?;
     if literal != 2 * (1 + i) {
         return Err(Refusal::WrongLiteral.at(line));
     }
@@ -67,12 +65,13 @@ fn third_fits(own: u32, third: Option<u32>) -> bool
     }
 }
 
-fn pin(third: Option<u32>) -> u32
-    ensures { result ≡ spec.pin third }
+fn pin(third: Option<u32>) -> Pin
+    ensures { pin_word result ≡ spec.pin third }
 {
     match third {
-        None => 0,
-        Some(n) => { if n <= 1 { n } else { 2 } }
+        None | Some(0) => Pin::Zero,
+        Some(1) => Pin::One,
+        Some(_) => Pin::Free,
     }
 }
 
@@ -82,13 +81,11 @@ fn flop_line(lines: &mut Lines, counts: Counts, j: u32) -> Result<FlopLine, Read
 {
     let line = 2 + counts.inputs + j;
     let own = 2 * (1 + counts.inputs + j);
-    let Some(flop) = lines.flop() else {
-        return Err(Refusal::MalformedLine.at(line));
-    };
+    let flop = lines.flop().ok_or(Refusal::MalformedLine.at(line))?;
     if flop.own != own {
         return Err(Refusal::WrongLiteral.at(line));
     }
-    if flop.next as u64 > counts.largest_literal() {
+    if u64::from(flop.next) > counts.largest_literal() {
         return Err(Refusal::LargeLiteral.at(line));
     }
     if !third_fits(own, flop.third) {
@@ -102,7 +99,7 @@ fn write_flop(words: &mut [u32], count: usize, j: usize, flop: FlopLine)
     ensures { words.new ≡ slice_set (slice_set words.old j flop.next) (count + j) (spec.pin flop.third) }
 {
     words[j] = flop.next;
-    words[count + j] = pin(flop.third);
+    words[count + j] = u32::from(pin(flop.third));
 }
 
 // Reads the flops' lines, and writes their next literals into the first half of `words`, their pins into the second.
@@ -123,10 +120,8 @@ fn output_line(lines: &mut Lines, counts: Counts, j: u32) -> Result<u32, ReadFau
     ensures { beside_result lines.new.rest.now result ≡ spec.output_line counts j lines.old.rest.now }
 {
     let line = 2 + counts.inputs + counts.flops + j;
-    let Some(literal) = lines.single() else {
-        return Err(Refusal::MalformedLine.at(line));
-    };
-    if literal as u64 > counts.largest_literal() {
+    let literal = lines.single().ok_or(Refusal::MalformedLine.at(line))?;
+    if u64::from(literal) > counts.largest_literal() {
         return Err(Refusal::LargeLiteral.at(line));
     }
     Ok(literal)
@@ -149,9 +144,7 @@ fn gate_line(lines: &mut Lines, counts: Counts, i: u32) -> Result<GateLine, Read
 {
     let line = 2 + counts.inputs + counts.flops + counts.outputs + i;
     let own = 2 * (1 + counts.inputs + counts.flops + i);
-    let Some(gate) = lines.gate() else {
-        return Err(Refusal::MalformedLine.at(line));
-    };
+    let gate = lines.gate().ok_or(Refusal::MalformedLine.at(line))?;
     if gate.own != own {
         return Err(Refusal::WrongLiteral.at(line));
     }
