@@ -3,7 +3,6 @@ use Rattle.std.proofs.Common.{◌≡◌, ℕ, ◌≤◌, List, ◌++◌, length,
 use Rattle.std.specs.List.{range_with_len}
 use Rattle.aiger.specs.declared.fault.ReadFault.{ReadFault}
 use Rattle.circuits.specs.declared.counts.Counts.{Counts}
-use Rattle.aiger.specs.declared.lines.Header.{Header}
 use Rattle.aiger.specs.declared.lines.FlopLine.{FlopLine}
 use Rattle.aiger.specs.declared.lines.GateLine.{GateLine}
 use Rattle.aiger.specs.Beside.{as_words, holding}
@@ -109,24 +108,32 @@ sections_end c t t₁ t₂ t₃ t₄ ws fw ow gw (Err x) a b d e w =
     let g₁ = words_err (λ gs. operand_words (operands_of gs)) (each (gate_line c) (range_with_len 0 c.gates) t₃) x e in
     sym (ap (as_words layout) (sections_refused c t t₁ t₂ t₃ i.0 ow f.0 x i.1.0 f.1.0 (sym d) g₁))
 
-pub reading_from : (lent : ℕ) (t t₁ t₂ : List ℕ) (h : Header) (net : Net) → Ok (h, t₁) ≡ header_line lent t
-    → sections h.counts t₁ ≡ Ok (net, t₂) → reading lent t ≡ Ok net
-reading_from lent t t₁ t₂ h net a b = rw (← a, b) refl
+-- line 1 accepted: what is read after it, where only its counts were kept
+reading_on : (lent : ℕ) (t t₁ : List ℕ) (c : Counts) → Ok (c, t₁) ≡ as_words (λ h. h.counts) (header_line lent t)
+    → reading lent t ≡ onward (sections c t₁) (λ net _. Ok net)
+reading_on lent t t₁ c a =
+    let h = words_ok (λ h. h.counts) (header_line lent t) c t₁ a in
+    ap (λ r. onward r (λ h u. onward (sections h.counts u) (λ net _. Ok net))) h.1.0
+    ∙ ap (λ k. onward (sections k t₁) (λ net _. Ok net)) h.1.1
+
+pub reading_from : (lent : ℕ) (t t₁ t₂ : List ℕ) (c : Counts) (net : Net) → Ok (c, t₁) ≡ as_words (λ h. h.counts) (header_line lent t)
+    → sections c t₁ ≡ Ok (net, t₂) → reading lent t ≡ Ok net
+reading_from lent t t₁ t₂ c net a b = reading_on lent t t₁ c a ∙ ap (λ q. onward q (λ net _. Ok net)) b
 
 -- an accepted text: the circuit's words, and then what the words held
-pub accepted_words : (lent : ℕ) (t t₀ t₁ t₂ ws ws' : List ℕ) (h : Header) → t₀ ≡ t
-    → Ok (h, t₁) ≡ header_line lent t₀
-    → Ok (take (room h.counts) ws', t₂) ≡ as_words layout (sections h.counts t₁)
-    → drop (room h.counts) ws' ≡ drop (room h.counts) ws
-    → room h.counts ≤ length ws'
-    → (Ok h.counts ≡ answered (reading lent t)) × (ws' ≡ words_after (reading lent t) ws)
-accepted_words lent t t₀ t₁ t₂ ws ws' h z a b d k =
-    let c = h.counts in
+pub accepted_words : (lent : ℕ) (t t₀ t₁ t₂ ws ws' : List ℕ) (c : Counts) → t₀ ≡ t
+    → Ok (c, t₁) ≡ as_words (λ h. h.counts) (header_line lent t₀)
+    → Ok (take (room c) ws', t₂) ≡ as_words layout (sections c t₁)
+    → drop (room c) ws' ≡ drop (room c) ws
+    → room c ≤ length ws'
+    → (Ok c ≡ answered (reading lent t)) × (ws' ≡ words_after (reading lent t) ws)
+accepted_words lent t t₀ t₁ t₂ ws ws' c z a b d k =
     let s = words_ok layout (sections c t₁) (take (room c) ws') t₂ b in
     let n = s.0 in
     let p = sections_parts c t₁ n t₂ s.1.0 in
     let e : n.counts ≡ c = ap (λ (m : Net). m.counts) p.net_is in
-    let r : reading lent t ≡ Ok n = reading_from lent t t₁ t₂ h n (a ∙ ap (header_line lent) z) s.1.0 in
+    let r : reading lent t ≡ Ok n
+    = reading_from lent t t₁ t₂ c n (a ∙ ap (λ u. as_words (λ h. h.counts) (header_line lent u)) z) s.1.0 in
     let l : length (layout n) ≡ room c = ap length s.1.1 ∙ length-take-le (room c) ws' k in
     let w : ws' ≡ layout n ++ drop (length (layout n)) ws
     = sym (take-append-drop (room c) ws') ∙ ap (λ (y : List ℕ). y ++ drop (room c) ws') (sym s.1.1)
@@ -140,15 +147,16 @@ Refused f q ws = (Err f ≡ answered q) × (replicate (length ws) 0 ≡ words_af
 refused_from : (f : ReadFault) (q : Result Net ReadFault) (ws : List ℕ) → q ≡ Err f → Refused f q ws
 refused_from f q ws e = (sym (ap answered e), sym (ap (λ r. words_after r ws) e))
 
-pub header_refused : (lent : ℕ) (t t₀ ws : List ℕ) (f : ReadFault) → t₀ ≡ t → Err f ≡ header_line lent t₀ → Refused f (reading lent t) ws
+pub header_refused : (lent : ℕ) (t t₀ ws : List ℕ) (f : ReadFault) → t₀ ≡ t → Err f ≡ as_words (λ h. h.counts) (header_line lent t₀)
+    → Refused f (reading lent t) ws
 header_refused lent t t₀ ws f z a =
-    let b : Err f ≡ header_line lent t = a ∙ ap (header_line lent) z in
-    refused_from f (reading lent t) ws (rw (← b) refl)
+    let b : header_line lent t ≡ Err f = ap (header_line lent) (sym z) ∙ words_err (λ h. h.counts) (header_line lent t₀) f a in
+    refused_from f (reading lent t) ws (rw b refl)
 
-pub later_refused : (lent : ℕ) (t t₀ t₁ ws : List ℕ) (h : Header) (f : ReadFault) → t₀ ≡ t → Ok (h, t₁) ≡ header_line lent t₀
-    → Err f ≡ as_words layout (sections h.counts t₁) → Refused f (reading lent t) ws
-later_refused lent t t₀ t₁ ws h f z a b =
-    let s = words_err layout (sections h.counts t₁) f b in
-    let d : Ok (h, t₁) ≡ header_line lent t = a ∙ ap (header_line lent) z in
-    let r : reading lent t ≡ Err f = rw (← d, s) refl in
-    refused_from f (reading lent t) ws r
+pub later_refused : (lent : ℕ) (t t₀ t₁ ws : List ℕ) (c : Counts) (f : ReadFault) → t₀ ≡ t
+    → Ok (c, t₁) ≡ as_words (λ h. h.counts) (header_line lent t₀)
+    → Err f ≡ as_words layout (sections c t₁) → Refused f (reading lent t) ws
+later_refused lent t t₀ t₁ ws c f z a b =
+    refused_from f (reading lent t) ws
+    (reading_on lent t t₁ c (a ∙ ap (λ u. as_words (λ h. h.counts) (header_line lent u)) z)
+    ∙ ap (λ q. onward q (λ net _. Ok net)) (words_err layout (sections c t₁) f b))

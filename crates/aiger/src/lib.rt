@@ -4,3 +4,4 @@
 pub mod fault;
 mod lines;
 pub mod reading;
+mod sizes;

@@ -1,7 +1,7 @@
 // Reading a netlist's text into lent words.
 ghost use Rattle.std.specs.Prelude.{◌≡◌, ◌+◌, ◌*◌, ◌<◌, ◌≤◌, true, ◌++◌, length, take, drop, replicate, is_ok, IfOk, Ok, Err, slice_set};
 ghost use Rattle.std.specs.List.{range_with_len};
-ghost use Rattle.circuits.specs.Net.{BoundedCounts, layout, operand_words, room};
+ghost use Rattle.circuits.specs.Net.{layout, operand_words, room};
 ghost use Rattle.circuits.specs.Pins.{pin_word};
 ghost use Rattle.aiger.specs.Beside.{beside_result, holding, as_words};
 ghost use Rattle.aiger.specs.Reading as spec;
@@ -9,6 +9,7 @@ ghost use Rattle.aiger.specs.Laws.{Laws};
 
 use crate::fault::{ReadFault, Refusal};
 use crate::lines::{FlopLine, GateLine, Header, Lines};
+use crate::sizes::Sizes;
 use circuits::counts::Counts;
 use circuits::pin::Pin;
 
@@ -18,19 +19,21 @@ fn counts_fit(h: &Header) -> bool
     h.counts.in_bounds() && u64::from(h.last) == h.counts.last_net()
 }
 
-fn header_line(lines: &mut Lines, lent: usize) -> Result<Header, ReadFault>
-    ensures line { beside_result lines.new.rest.now result ≡ spec.header_line lent lines.old.rest.now }
-    ensures fits { IfOk result (λ h. BoundedCounts h.counts × (room h.counts ≤ lent)) }
+fn header_line(lines: &mut Lines, lent: usize) -> Result<Sizes, ReadFault>
+    ensures line { as_words (λ sizes. sizes.counts) (beside_result lines.new.rest.now result) ≡ as_words (λ h. h.counts) (spec.header_line lent lines.old.rest.now) }
+    ensures fits { IfOk result (λ sizes. room sizes.counts ≤ lent) }
 {
     let header = lines.header().ok_or(Refusal::MalformedHeader.at(1))?;
     if !counts_fit(&header) {
         return Err(Refusal::WrongCounts.at(1));
     }
-    let counts = header.counts;
-    if (lent as u64) < counts.room() {
+    let sizes = Sizes {
+        counts: header.counts,
+    };
+    if (lent as u64) < sizes.counts.room() {
         return Err(Refusal::FewWords.at(1));
     }
-    Ok(header)
+    Ok(sizes)
 }
 
 fn input_line(lines: &mut Lines, i: u32) -> Result<u32, ReadFault>
@@ -75,17 +78,17 @@ fn pin(third: Option<u32>) -> Pin
     }
 }
 
-fn flop_line(lines: &mut Lines, counts: Counts, j: u32) -> Result<FlopLine, ReadFault>
-    requires { (BoundedCounts counts) × (j < 256) }
-    ensures { beside_result lines.new.rest.now result ≡ spec.flop_line counts j lines.old.rest.now }
+fn flop_line(lines: &mut Lines, sizes: Sizes, j: u32) -> Result<FlopLine, ReadFault>
+    requires { (j < 256) }
+    ensures { beside_result lines.new.rest.now result ≡ spec.flop_line sizes.counts j lines.old.rest.now }
 {
-    let line = 2 + counts.inputs + j;
-    let own = 2 * (1 + counts.inputs + j);
+    let line = 2 + sizes.counts.inputs + j;
+    let own = 2 * (1 + sizes.counts.inputs + j);
     let flop = lines.flop().ok_or(Refusal::MalformedLine.at(line))?;
     if flop.own != own {
         return Err(Refusal::WrongLiteral.at(line));
     }
-    if u64::from(flop.next) > counts.largest_literal() {
+    if u64::from(flop.next) > sizes.counts.largest_literal() {
         return Err(Refusal::LargeLiteral.at(line));
     }
     if !third_fits(own, flop.third) {
@@ -103,47 +106,47 @@ fn write_flop(words: &mut [u32], count: usize, j: usize, flop: FlopLine)
 }
 
 // Reads the flops' lines, and writes their next literals into the first half of `words`, their pins into the second.
-fn flops(lines: &mut Lines, counts: Counts, words: &mut [u32]) -> Result<(), ReadFault>
-    requires { (BoundedCounts counts) × (length words.old ≡ 2 * counts.flops) }
-    ensures { holding words.new lines.new.rest.now result ≡ as_words (λ fs. spec.nexts_of fs ++ spec.pins_of fs) (spec.each (spec.flop_line counts) (range_with_len 0 counts.flops) lines.old.rest.now) }
+fn flops(lines: &mut Lines, sizes: Sizes, words: &mut [u32]) -> Result<(), ReadFault>
+    requires { (length words.old ≡ 2 * sizes.counts.flops) }
+    ensures { holding words.new lines.new.rest.now result ≡ as_words (λ fs. spec.nexts_of fs ++ spec.pins_of fs) (spec.each (spec.flop_line sizes.counts) (range_with_len 0 sizes.counts.flops) lines.old.rest.now) }
 {
-    let count = counts.flops as usize;
+    let count = sizes.counts.flops as usize;
     for j in 0..count {
-        let flop = flop_line(lines, counts, j as u32)?;
+        let flop = flop_line(lines, sizes, j as u32)?;
         write_flop(words, count, j, flop);
     }
     Ok(())
 }
 
-fn output_line(lines: &mut Lines, counts: Counts, j: u32) -> Result<u32, ReadFault>
-    requires { (BoundedCounts counts) × (j < 256) }
-    ensures { beside_result lines.new.rest.now result ≡ spec.output_line counts j lines.old.rest.now }
+fn output_line(lines: &mut Lines, sizes: Sizes, j: u32) -> Result<u32, ReadFault>
+    requires { (j < 256) }
+    ensures { beside_result lines.new.rest.now result ≡ spec.output_line sizes.counts j lines.old.rest.now }
 {
-    let line = 2 + counts.inputs + counts.flops + j;
+    let line = 2 + sizes.counts.inputs + sizes.counts.flops + j;
     let literal = lines.single().ok_or(Refusal::MalformedLine.at(line))?;
-    if u64::from(literal) > counts.largest_literal() {
+    if u64::from(literal) > sizes.counts.largest_literal() {
         return Err(Refusal::LargeLiteral.at(line));
     }
     Ok(literal)
 }
 
 // Reads the outputs' lines, and writes their literals into `words`.
-fn outputs(lines: &mut Lines, counts: Counts, words: &mut [u32]) -> Result<(), ReadFault>
-    requires { (BoundedCounts counts) × (length words.old ≡ counts.outputs) }
-    ensures { holding words.new lines.new.rest.now result ≡ spec.each (spec.output_line counts) (range_with_len 0 counts.outputs) lines.old.rest.now }
+fn outputs(lines: &mut Lines, sizes: Sizes, words: &mut [u32]) -> Result<(), ReadFault>
+    requires { (length words.old ≡ sizes.counts.outputs) }
+    ensures { holding words.new lines.new.rest.now result ≡ spec.each (spec.output_line sizes.counts) (range_with_len 0 sizes.counts.outputs) lines.old.rest.now }
 {
-    for j in 0..counts.outputs as usize {
-        words[j] = output_line(lines, counts, j as u32)?;
+    for j in 0..sizes.counts.outputs as usize {
+        words[j] = output_line(lines, sizes, j as u32)?;
     }
     Ok(())
 }
 
-fn gate_line(lines: &mut Lines, counts: Counts, i: u32) -> Result<GateLine, ReadFault>
-    requires { (BoundedCounts counts) × (i < 8192) }
-    ensures { beside_result lines.new.rest.now result ≡ spec.gate_line counts i lines.old.rest.now }
+fn gate_line(lines: &mut Lines, sizes: Sizes, i: u32) -> Result<GateLine, ReadFault>
+    requires { (i < 8192) }
+    ensures { beside_result lines.new.rest.now result ≡ spec.gate_line sizes.counts i lines.old.rest.now }
 {
-    let line = 2 + counts.inputs + counts.flops + counts.outputs + i;
-    let own = 2 * (1 + counts.inputs + counts.flops + i);
+    let line = 2 + sizes.counts.inputs + sizes.counts.flops + sizes.counts.outputs + i;
+    let own = 2 * (1 + sizes.counts.inputs + sizes.counts.flops + i);
     let gate = lines.gate().ok_or(Refusal::MalformedLine.at(line))?;
     if gate.own != own {
         return Err(Refusal::WrongLiteral.at(line));
@@ -163,30 +166,30 @@ fn write_gate(words: &mut [u32], i: usize, gate: GateLine)
 }
 
 // Reads the gates' lines, and writes the two operands of each into `words`.
-fn gates(lines: &mut Lines, counts: Counts, words: &mut [u32]) -> Result<(), ReadFault>
-    requires { (BoundedCounts counts) × (length words.old ≡ 2 * counts.gates) }
-    ensures { holding words.new lines.new.rest.now result ≡ as_words (λ gs. operand_words (spec.operands_of gs)) (spec.each (spec.gate_line counts) (range_with_len 0 counts.gates) lines.old.rest.now) }
+fn gates(lines: &mut Lines, sizes: Sizes, words: &mut [u32]) -> Result<(), ReadFault>
+    requires { (length words.old ≡ 2 * sizes.counts.gates) }
+    ensures { holding words.new lines.new.rest.now result ≡ as_words (λ gs. operand_words (spec.operands_of gs)) (spec.each (spec.gate_line sizes.counts) (range_with_len 0 sizes.counts.gates) lines.old.rest.now) }
 {
-    for i in 0..counts.gates as usize {
-        let gate = gate_line(lines, counts, i as u32)?;
+    for i in 0..sizes.counts.gates as usize {
+        let gate = gate_line(lines, sizes, i as u32)?;
         write_gate(words, i, gate);
     }
     Ok(())
 }
 
 // Reads what follows line 1, and writes the circuit's words to the front of `words`.
-fn sections(lines: &mut Lines, counts: Counts, words: &mut [u32]) -> Result<(), ReadFault>
-    requires { (BoundedCounts counts) × (room counts ≤ length words.old) }
-    ensures front { holding (take (room counts) words.new) lines.new.rest.now result ≡ as_words layout (spec.sections counts lines.old.rest.now) }
-    ensures later { is_ok result ≡ true → drop (room counts) words.new ≡ drop (room counts) words.old }
+fn sections(lines: &mut Lines, sizes: Sizes, words: &mut [u32]) -> Result<(), ReadFault>
+    requires { (room sizes.counts ≤ length words.old) }
+    ensures front { holding (take (room sizes.counts) words.new) lines.new.rest.now result ≡ as_words layout (spec.sections sizes.counts lines.old.rest.now) }
+    ensures later { is_ok result ≡ true → drop (room sizes.counts) words.new ≡ drop (room sizes.counts) words.old }
 {
-    let gates_end = 2 * counts.gates as usize;
-    let flops_end = gates_end + 2 * counts.flops as usize;
-    let outputs_end = flops_end + counts.outputs as usize;
-    inputs(lines, counts.inputs)?;
-    flops(lines, counts, &mut words[gates_end..flops_end])?;
-    outputs(lines, counts, &mut words[flops_end..outputs_end])?;
-    gates(lines, counts, &mut words[0..gates_end])
+    let gates_end = 2 * sizes.counts.gates as usize;
+    let flops_end = gates_end + 2 * sizes.counts.flops as usize;
+    let outputs_end = flops_end + sizes.counts.outputs as usize;
+    inputs(lines, sizes.counts.inputs)?;
+    flops(lines, sizes, &mut words[gates_end..flops_end])?;
+    outputs(lines, sizes, &mut words[flops_end..outputs_end])?;
+    gates(lines, sizes, &mut words[0..gates_end])
 }
 
 // Writes the circuit's words to the front of `words`, or says why not.
@@ -196,9 +199,9 @@ fn fill(text: &[u8], words: &mut [u32]) -> Result<Counts, ReadFault>
     ensures laws { Laws (length words.old) text.now }
 {
     let mut lines = Lines::new(text);
-    let header = header_line(&mut lines, words.len())?;
-    sections(&mut lines, header.counts, words)?;
-    Ok(header.counts)
+    let sizes = header_line(&mut lines, words.len())?;
+    sections(&mut lines, sizes, words)?;
+    Ok(sizes.counts)
 }
 
 // Reads a netlist's text into the lent words: its operands, next literals, pins and outputs. Later words are left as they

@@ -8,5 +8,5 @@ use Rattle.aiger.proofs.reading.gates.Given as goal
 
 abbrev pub invariant-loop-i : goal.invariant-loop-i
 invariant-loop-i l =
-    each_with (gate_line l.counts) with_gate (range_with_len l.i (l.counts.gates - l.i)) (take (2 * l.i) l.words) l.lines.rest.now
-    ≡ as_words (λ gs. operand_words (operands_of gs)) (each (gate_line l.counts) (range_with_len 0 l.counts.gates) l.initial.lines.rest.now)
+    each_with (gate_line l.sizes.counts) with_gate (range_with_len l.i (l.sizes.counts.gates - l.i)) (take (2 * l.i) l.words) l.lines.rest.now
+    ≡ as_words (λ gs. operand_words (operands_of gs)) (each (gate_line l.sizes.counts) (range_with_len 0 l.sizes.counts.gates) l.initial.lines.rest.now)

@@ -6,5 +6,5 @@ use Rattle.aiger.proofs.reading.outputs.Given as goal
 
 abbrev pub invariant-loop-j : goal.invariant-loop-j
 invariant-loop-j l =
-    each_with (output_line l.counts) with_output (range_with_len l.j (l.counts.outputs - l.j)) (take l.j l.words) l.lines.rest.now
-    ≡ each (output_line l.counts) (range_with_len 0 l.counts.outputs) l.initial.lines.rest.now
+    each_with (output_line l.sizes.counts) with_output (range_with_len l.j (l.sizes.counts.outputs - l.j)) (take l.j l.words) l.lines.rest.now
+    ≡ each (output_line l.sizes.counts) (range_with_len 0 l.sizes.counts.outputs) l.initial.lines.rest.now

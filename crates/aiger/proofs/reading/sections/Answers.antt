@@ -5,14 +5,14 @@ use Rattle.aiger.proofs.reading.sections.Goals as goal
 
 pub returns : goal.returns
 returns c =
-    let g = 2 * c.args.counts.gates in
-    let e = g + 2 * c.args.counts.flops in
-    let n = e + c.args.counts.outputs in
+    let g = 2 * c.args.sizes.counts.gates in
+    let e = g + 2 * c.args.sizes.counts.flops in
+    let n = e + c.args.sizes.counts.outputs in
     let lf : length c.flops.new.words ≡ e - g = omega arith in
     let lo : length c.outputs.new.words ≡ n - e = omega arith in
     let lg : length c.gates.new.words ≡ g - 0 = omega arith in
     record {
-      front = sections_end c.args.counts _ _ _ _ _ _ _ _ _ c.gates.result
+      front = sections_end c.args.sizes.counts _ _ _ _ _ _ _ _ _ c.gates.result
           c.in_ok-inputs.ensures c.in_ok-flops.ensures c.in_ok-outputs.ensures c.gates.ensures
           (laid_front c.args.words.now c.flops.new.words c.outputs.new.words c.gates.new.words
           g e n (e - g) (n - e) (g - 0) refl refl (omega arith) (omega arith) (omega arith) (omega arith) lf lo lg);
