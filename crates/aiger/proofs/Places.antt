@@ -1,20 +1,20 @@
--- The words after the sections that write some: flops, outputs and gates, each into its own part.
-use Rattle.std.proofs.Common.{◌≡◌, ℕ, ◌-◌, ◌≤◌, List, ◌++◌, length, take, drop, ◌∙◌, arith, rules}
-use borrow.Rule.Slice.PartMut.{put_mid}
-use Rattle.std.proofs.lemmas.List.{places, same_lists, length-append, length-take, length-drop}
-use Rattle.std.proofs.lemmas.Slice.{drop-put_mid}
+-- The words after the sections have written some: gates, flops and outputs, each its own part, and what is left as it was.
+use Rattle.std.proofs.Common.{◌≡◌, ℕ, ◌+◌, List, ◌++◌, length, take, drop, ap, ◌∙◌, append_assoc, arith}
+use Rattle.std.proofs.Math.Seq.{take-append_seam, drop-append_seam}
+use Rattle.std.proofs.lemmas.List.{length-append, drop-drop}
 
--- parts up to g, from g to e and from e to n
-pub laid_front : (ws fs os gs : List ℕ) (g e n k₁ k₂ k₃ : ℕ) → k₁ ≡ e - g → k₂ ≡ n - e → k₃ ≡ g → g ≤ e → e ≤ n → n ≤ length ws
-    → length fs ≡ k₁ → length os ≡ k₂ → length gs ≡ k₃
-    → take n (put_mid 0 k₃ (put_mid e k₂ (put_mid g k₁ ws fs) os) gs) ≡ gs ++ (fs ++ os)
-laid_front ws fs os gs g e n k₁ k₂ k₃ p q r a b d h i j =
-    same_lists _ _ (search (rules, places)) (λ k x l. grind (arith, places))
+module _ (gs fs os later : List ℕ) (n : ℕ) (l : length gs + length fs + length os ≡ n) where
+  joined : gs ++ (fs ++ (os ++ later)) ≡ (gs ++ (fs ++ os)) ++ later
+  joined = simp append_assoc
 
-pub laid_later : (ws fs os gs : List ℕ) (g e n k₁ k₂ k₃ : ℕ) → k₁ ≡ e - g → k₂ ≡ n - e → k₃ ≡ g → g ≤ e → e ≤ n → n ≤ length ws
-    → length fs ≡ k₁ → length os ≡ k₂ → length gs ≡ k₃
-    → drop n (put_mid 0 k₃ (put_mid e k₂ (put_mid g k₁ ws fs) os) gs) ≡ drop n ws
-laid_later ws fs os gs g e n k₁ k₂ k₃ p q r a b d h i j =
-    drop-put_mid 0 k₃ (put_mid e k₂ (put_mid g k₁ ws fs) os) gs n (omega arith) (omega arith) j
-    ∙ drop-put_mid e k₂ (put_mid g k₁ ws fs) os n (omega arith) (simp (length-append, length-take, length-drop) (omega arith)) i
-    ∙ drop-put_mid g k₁ ws fs n (omega arith) (omega arith) h
+  whole : n ≡ length (gs ++ (fs ++ os))
+  whole = simp length-append (omega arith)
+
+  pub parts_front : take n (gs ++ (fs ++ (os ++ later))) ≡ gs ++ (fs ++ os)
+  parts_front = ap (λ xs. take n xs) joined ∙ ap (λ m. take m ((gs ++ (fs ++ os)) ++ later)) whole ∙ take-append_seam (gs ++ (fs ++ os)) later
+
+  pub parts_later : drop n (gs ++ (fs ++ (os ++ later))) ≡ later
+  parts_later = ap (λ xs. drop n xs) joined ∙ ap (λ m. drop m ((gs ++ (fs ++ os)) ++ later)) whole ∙ drop-append_seam (gs ++ (fs ++ os)) later
+
+pub drop_thrice : (g f o : ℕ) (ws : List ℕ) → drop o (drop f (drop g ws)) ≡ drop (g + f + o) ws
+drop_thrice g f o ws = ap (drop o) (drop-drop f g ws) ∙ drop-drop o (g + f) ws

@@ -1,147 +1,150 @@
--- The lines of one kind, read by a loop: one line on, stopped by a refusal, and at the end.
-use Rattle.std.proofs.Common.{◌≡◌, ℕ, suc, ◌+◌, ◌-◌, ◌*◌, ◌<◌, ◌≤◌, List, [], ◌∷◌, ◌++◌, length, take, drop, set, Ok, Err, Result, sym, refl, ap, ◌∙◌, append_assoc, arith}
+-- The lines of one kind, read by a loop: one line on, stopped by a refusal, and at the end; and the words that they make.
+use Rattle.std.proofs.Common.{◌≡◌, ℕ, zero, suc, ◌+◌, ◌-◌, ◌*◌, ◌<◌, ◌≤◌, List, [], ◌∷◌, ◌++◌, length, take, drop, set, Ok, Err, Result, sym, refl, ap, ◌∙◌, append_assoc, arith}
 use Rattle.std.specs.List.{range_with_len}
 use Rattle.std.proofs.lemmas.List.{append-nil, take_more_set, take_all, take-set-le, drop-set-add, drop-set-lt, length-set, length-drop, take-append-drop}
+use Rattle.std.proofs.lemmas.List.FromFn.{length-range_with_len}
 use Rattle.aiger.specs.declared.fault.ReadFault.{ReadFault}
 use Rattle.aiger.specs.declared.lines.FlopLine.{FlopLine}
 use Rattle.aiger.specs.declared.lines.GateLine.{GateLine}
 use Rattle.aiger.specs.Beside.{as_words}
 use Rattle.circuits.specs.Net.{operand_words}
 use Rattle.aiger.specs.Reading.{each, onward, pin, nexts_of, pins_of, operands_of}
+use Rattle.aiger.specs.Sections.{writes, WritesWords}
 
-abbrev after : {S X : Type 0} → (S → X → S) → S → List X → S
-after put s [] = s
-after put s (x ∷ xs) = after put (put s x) xs
+-- words that are the same for as many lines as there are
+as_words_same : {X : Type 0} (line : ℕ → List ℕ → Result (X × List ℕ) ReadFault) (f g : List X → List ℕ) (is t : List ℕ)
+    → ((xs : List X) → length xs ≡ length is → f xs ≡ g xs) → as_words f (each line is t) ≡ as_words g (each line is t)
+as_words_same line f g [] t h = ap (λ ws. Ok (ws, t)) (h [] refl)
+as_words_same {X = X} line f g (i ∷ is) t h = at (line i t) (λ x. as_words_same line (λ xs. f (x ∷ xs)) (λ xs. g (x ∷ xs)) is)
+  where
+    rest : (k : List X → List ℕ) (x : X) (r : Result (List X × List ℕ) ReadFault)
+        → as_words k (onward r (λ xs v. Ok (x ∷ xs, v))) ≡ as_words (λ xs. k (x ∷ xs)) r
+    rest k x (Err e) = refl
+    rest k x (Ok p) = refl
 
-as_words_same : {X S : Type 0} (f g : X → S) → ((x : X) → f x ≡ g x) → (r : Result (X × List ℕ) ReadFault) → as_words f r ≡ as_words g r
-as_words_same f g h (Err e) = refl
-as_words_same f g h (Ok p) = ap (λ s. Ok (s, p.1)) (h p.0)
+    at : (r : Result (X × List ℕ) ReadFault)
+        → ((x : X) (u : List ℕ) → ((xs : List X) → length xs ≡ length is → f (x ∷ xs) ≡ g (x ∷ xs))
+        → as_words (λ xs. f (x ∷ xs)) (each line is u) ≡ as_words (λ xs. g (x ∷ xs)) (each line is u))
+        → as_words f (onward r (λ x u. onward (each line is u) (λ xs v. Ok (x ∷ xs, v))))
+        ≡ as_words g (onward r (λ x u. onward (each line is u) (λ xs v. Ok (x ∷ xs, v))))
+    at (Err e) go = refl
+    at (Ok p) go =
+        rest f p.0 (each line is p.1) ∙ go p.0 p.1 (λ xs l. h (p.0 ∷ xs) (ap suc l)) ∙ sym (rest g p.0 (each line is p.1))
 
-pub as_words_itself : {X : Type 0} (r : Result (X × List ℕ) ReadFault) → as_words (λ x. x) r ≡ r
-as_words_itself (Err e) = refl
-as_words_itself (Ok p) = refl
+module _ {X : Type 0} (line : ℕ → List ℕ → Result (X × List ℕ) ReadFault) (write : ℕ → X → List ℕ → List ℕ) where
+  -- n lines in turn from line i on, and the words after they have been written
+  abbrev pub each_written : ℕ → ℕ → List ℕ → List ℕ → Result (List ℕ × List ℕ) ReadFault
+  each_written i zero ws t = Ok (ws, t)
+  each_written i (suc n) ws t = onward (line i t) (λ x u. each_written (i + 1) n (write i x ws) u)
 
-pub as_words_twice : {X S R : Type 0} (f : X → S) (g : S → R) (r : Result (X × List ℕ) ReadFault)
-    → as_words g (as_words f r) ≡ as_words (λ x. g (f x)) r
-as_words_twice f g (Err e) = refl
-as_words_twice f g (Ok p) = refl
-
-module _ {S X : Type 0} (line : ℕ → List ℕ → Result (X × List ℕ) ReadFault) (put : S → X → S) where
-  -- the lines in turn, where s holds what those before them gave
-  abbrev pub each_with : List ℕ → S → List ℕ → Result (S × List ℕ) ReadFault
-  each_with [] s t = Ok (s, t)
-  each_with (i ∷ is) s t = onward (line i t) (λ x u. each_with is (put s x) u)
-
-  with_after : (is : List ℕ) (s : S) (t : List ℕ) → each_with is s t ≡ as_words (after put s) (each line is t)
-  with_after [] s t = refl
-  with_after (i ∷ is) s t = at (line i t) (λ x u. with_after is (put s x) u)
+  written_after : (i n : ℕ) (ws t : List ℕ) → each_written i n ws t ≡ as_words (λ xs. writes write i xs ws) (each line (range_with_len i n) t)
+  written_after i zero ws t = refl
+  written_after i (suc n) ws t = at (line i t) (λ x u. written_after (i + 1) n (write i x ws) u)
     where
       rest : (x : X) (r : Result (List X × List ℕ) ReadFault)
-          → as_words (after put (put s x)) r ≡ as_words (after put s) (onward r (λ xs v. Ok (x ∷ xs, v)))
+          → as_words (λ xs. writes write (i + 1) xs (write i x ws)) r ≡ as_words (λ xs. writes write i xs ws) (onward r (λ xs v. Ok (x ∷ xs, v)))
       rest x (Err f) = refl
       rest x (Ok p) = refl
 
       at : (r : Result (X × List ℕ) ReadFault)
-          → ((x : X) (u : List ℕ) → each_with is (put s x) u ≡ as_words (after put (put s x)) (each line is u))
-          → onward r (λ x u. each_with is (put s x) u)
-          ≡ as_words (after put s) (onward r (λ x u. onward (each line is u) (λ xs v. Ok (x ∷ xs, v))))
+          → ((x : X) (u : List ℕ) → each_written (i + 1) n (write i x ws) u
+          ≡ as_words (λ xs. writes write (i + 1) xs (write i x ws)) (each line (range_with_len (i + 1) n) u))
+          → onward r (λ x u. each_written (i + 1) n (write i x ws) u)
+          ≡ as_words (λ xs. writes write i xs ws) (onward r (λ x u. onward (each line (range_with_len (i + 1) n) u) (λ xs v. Ok (x ∷ xs, v))))
       at (Err f) h = refl
-      at (Ok p) h = h p.0 p.1 ∙ rest p.0 (each line is p.1)
+      at (Ok p) h = h p.0 p.1 ∙ rest p.0 (each line (range_with_len (i + 1) n) p.1)
 
   -- a loop begins
-  pub each_starts : (f : List X → S) (s : S) → ((xs : List X) → after put s xs ≡ f xs) → (n : ℕ) (t : List ℕ)
-      → each_with (range_with_len 0 (n - 0)) s t ≡ as_words f (each line (range_with_len 0 n) t)
-  each_starts f s h n t =
+  pub each_starts : (words : List X → List ℕ) (n : ℕ) (ws t : List ℕ) → ((xs : List X) → length xs ≡ n → writes write 0 xs ws ≡ words xs)
+      → each_written 0 (n - 0) ws t ≡ as_words words (each line (range_with_len 0 n) t)
+  each_starts words n ws t h =
       let z : n - 0 ≡ n = omega arith in
-      ap (λ m. each_with (range_with_len 0 m) s t) z ∙ with_after (range_with_len 0 n) s t ∙ as_words_same (after put s) f h (each line (range_with_len 0 n) t)
+      ap (λ m. each_written 0 m ws t) z ∙ written_after 0 n ws t
+      ∙ as_words_same line (λ xs. writes write 0 xs ws) words (range_with_len 0 n) t (λ xs l. h xs (l ∙ length-range_with_len 0 n))
 
-  front : (n k : ℕ) (s : S) (t : List ℕ) → k < n
-      → each_with (range_with_len k (n - k)) s t ≡ onward (line k t) (λ x u. each_with (range_with_len (k + 1) (n - (k + 1))) (put s x) u)
-  front n k s t h = let e : n - k ≡ suc (n - (k + 1)) = omega arith in ap (λ m. each_with (range_with_len k m) s t) e
+  next : (n k : ℕ) (ws t : List ℕ) → k < n
+      → each_written k (n - k) ws t ≡ onward (line k t) (λ x u. each_written (k + 1) (n - (k + 1)) (write k x ws) u)
+  next n k ws t h = let e : n - k ≡ suc (n - (k + 1)) = omega arith in ap (λ m. each_written k m ws t) e
 
-  pub each_more : (n k : ℕ) (s s' : S) (t u : List ℕ) (x : X) → k < n → Ok (x, u) ≡ line k t → s' ≡ put s x
-      → each_with (range_with_len (k + 1) (n - (k + 1))) s' u ≡ each_with (range_with_len k (n - k)) s t
-  each_more n k s s' t u x h e p =
-      sym (front n k s t h ∙ ap (λ r. onward r (λ y v. each_with (range_with_len (k + 1) (n - (k + 1))) (put s y) v)) (sym e)
-      ∙ ap (λ q. each_with (range_with_len (k + 1) (n - (k + 1))) q u) (sym p))
+  pub each_more : (n k : ℕ) (ws ws' t u : List ℕ) (x : X) → k < n → Ok (x, u) ≡ line k t → ws' ≡ write k x ws
+      → each_written (k + 1) (n - (k + 1)) ws' u ≡ each_written k (n - k) ws t
+  each_more n k ws ws' t u x h e p =
+      ap (λ q. each_written (k + 1) (n - (k + 1)) q u) p
+      ∙ ap (λ r. onward r (λ y v. each_written (k + 1) (n - (k + 1)) (write k y ws) v)) e ∙ sym (next n k ws t h)
 
-  pub each_stops : (n k : ℕ) (s : S) (t : List ℕ) (f : ReadFault) → k < n → Err f ≡ line k t
-      → Err f ≡ each_with (range_with_len k (n - k)) s t
-  each_stops n k s t f h e =
-      sym (front n k s t h ∙ ap (λ r. onward r (λ y v. each_with (range_with_len (k + 1) (n - (k + 1))) (put s y) v)) (sym e))
+  pub each_stops : (n k : ℕ) (ws t : List ℕ) (f : ReadFault) → k < n → Err f ≡ line k t → Err f ≡ each_written k (n - k) ws t
+  each_stops n k ws t f h e =
+      ap (λ r. onward r (λ y v. each_written (k + 1) (n - (k + 1)) (write k y ws) v)) e ∙ sym (next n k ws t h)
 
-  pub each_all : (n k : ℕ) (s : S) (t : List ℕ) → n ≤ k → Ok (s, t) ≡ each_with (range_with_len k (n - k)) s t
-  each_all n k s t h = let z : n - k ≡ 0 = omega arith in sym (ap (λ m. each_with (range_with_len k m) s t) z)
+  pub each_all : (n k : ℕ) (ws t : List ℕ) → n ≤ k → Ok (ws, t) ≡ each_written k (n - k) ws t
+  each_all n k ws t h = let z : n - k ≡ 0 = omega arith in sym (ap (λ m. each_written k m ws t) z)
 
--- What a loop has written after one line more.
-abbrev pub side_by_side : List ℕ × List ℕ → List ℕ
-side_by_side s = s.0 ++ s.1
+-- The words of each kind.
+inputs_from : (i : ℕ) (xs ws : List ℕ) → writes (λ _ _ ws. ws) i xs ws ≡ ws
+inputs_from i [] ws = refl
+inputs_from i (x ∷ xs) ws = inputs_from (i + 1) xs ws
 
-abbrev pub with_flop : List ℕ × List ℕ → FlopLine → List ℕ × List ℕ
-with_flop s f = (s.0 ++ (f.next ∷ []), s.1 ++ (pin f.third ∷ []))
+pub inputs_words : WritesWords {X = ℕ} (λ _ _ _ words. words) (λ _. 0) (λ _. [])
+inputs_words n xs ws a b = inputs_from 0 xs ws ∙ none ws b
+  where
+    none : (ws : List ℕ) → length ws ≡ 0 → ws ≡ []
+    none [] e = refl
+    none (w ∷ ws) e = absurd (omega arith)
 
-abbrev pub with_output : List ℕ → ℕ → List ℕ
-with_output s x = s ++ (x ∷ [])
+outputs_from : (j : ℕ) (xs ws : List ℕ) → j + length xs ≡ length ws → writes (λ j x ws. set ws j x) j xs ws ≡ take j ws ++ xs
+outputs_from j [] ws e = sym (append-nil (take j ws) ∙ take_all j ws (omega arith))
+outputs_from j (x ∷ xs) ws e =
+    outputs_from (j + 1) xs (set ws j x) (simp length-set (omega arith))
+    ∙ ap (λ ys. ys ++ xs) (take_more_set ws j x (omega arith)) ∙ append_assoc (take j ws) (x ∷ []) xs
 
-abbrev pub with_gate : List ℕ → GateLine → List ℕ
-with_gate s g = s ++ (g.left ∷ g.right ∷ [])
+pub outputs_words : WritesWords {X = ℕ} (λ _ j literal words. set words j literal) (λ count. count) (λ literals. literals)
+outputs_words n xs ws a b = outputs_from 0 xs ws (omega arith)
 
-pub after_inputs : (xs : List ℕ) → after {S = Unit {0}} (λ s _. s) tt xs ≡ tt
-after_inputs [] = refl
-after_inputs (x ∷ xs) = after_inputs xs
+gates_from : (i : ℕ) (gs : List GateLine) (ws : List ℕ) → 2 * (i + length gs) ≡ length ws
+    → writes (λ i g ws. set (set ws (2 * i) g.left) (2 * i + 1) g.right) i gs ws ≡ take (2 * i) ws ++ operand_words (operands_of gs)
+gates_from i [] ws e = sym (append-nil (take (2 * i) ws) ∙ take_all (2 * i) ws (omega arith))
+gates_from i (g ∷ gs) ws e =
+    gates_from (i + 1) gs (set (set ws (2 * i) g.left) (2 * i + 1) g.right) (simp length-set (omega arith))
+    ∙ ap (λ ys. ys ++ operand_words (operands_of gs)) (take_pair ws i g.left g.right (omega arith))
+    ∙ append_assoc (take (2 * i) ws) (g.left ∷ g.right ∷ []) (operand_words (operands_of gs))
+  where
+    take_pair : (xs : List ℕ) (k a b : ℕ) → 2 * k + 1 < length xs
+        → take (2 * (k + 1)) (set (set xs (2 * k) a) (2 * k + 1) b) ≡ take (2 * k) xs ++ (a ∷ b ∷ [])
+    take_pair xs k a b h =
+        let e : 2 * (k + 1) ≡ 2 * k + 1 + 1 = omega arith in
+        let l : 2 * k + 1 < length (set xs (2 * k) a) = simp length-set h in
+        ap (λ m. take m (set (set xs (2 * k) a) (2 * k + 1) b)) e
+        ∙ take_more_set (set xs (2 * k) a) (2 * k + 1) b l
+        ∙ ap (λ ys. ys ++ (b ∷ [])) (take_more_set xs (2 * k) a (omega arith))
+        ∙ append_assoc (take (2 * k) xs) (a ∷ []) (b ∷ [])
 
-after_flops_from : (ns ps : List ℕ) (fs : List FlopLine) → after with_flop (ns, ps) fs ≡ (ns ++ nexts_of fs, ps ++ pins_of fs)
-after_flops_from ns ps [] = let a = append-nil ns in let b = append-nil ps in cc
-after_flops_from ns ps (f ∷ fs) =
-    let i = after_flops_from (ns ++ (f.next ∷ [])) (ps ++ (pin f.third ∷ [])) fs in
-    let a = append_assoc ns (f.next ∷ []) (nexts_of fs) in let b = append_assoc ps (pin f.third ∷ []) (pins_of fs) in cc
+pub gates_words : WritesWords {X = GateLine} (λ _ i gate words. set (set words (2 * i) gate.left) (2 * i + 1) gate.right) (λ count. 2 * count)
+    (λ gates. operand_words (operands_of gates))
+gates_words n xs ws a b = gates_from 0 xs ws (omega arith)
 
-pub after_flops : (fs : List FlopLine) → after with_flop ([], []) fs ≡ (nexts_of fs, pins_of fs)
-after_flops fs = after_flops_from [] [] fs
-
-after_outputs_from : (s os : List ℕ) → after with_output s os ≡ s ++ os
-after_outputs_from s [] = sym (append-nil s)
-after_outputs_from s (x ∷ xs) = after_outputs_from (s ++ (x ∷ [])) xs ∙ append_assoc s (x ∷ []) xs
-
-pub after_outputs : (os : List ℕ) → after with_output [] os ≡ os
-after_outputs os = after_outputs_from [] os
-
-after_gates_from : (s : List ℕ) (gs : List GateLine) → after with_gate s gs ≡ s ++ operand_words (operands_of gs)
-after_gates_from s [] = sym (append-nil s)
-after_gates_from s (g ∷ gs) =
-    after_gates_from (s ++ (g.left ∷ g.right ∷ [])) gs ∙ append_assoc s (g.left ∷ g.right ∷ []) (operand_words (operands_of gs))
-
-pub after_gates : (gs : List GateLine) → after with_gate [] gs ≡ operand_words (operands_of gs)
-after_gates gs = after_gates_from [] gs
-
-pub take_pair : (xs : List ℕ) (k a b : ℕ) → 2 * k + 1 < length xs
-    → take (2 * (k + 1)) (set (set xs (2 * k) a) (2 * k + 1) b) ≡ take (2 * k) xs ++ (a ∷ b ∷ [])
-take_pair xs k a b h =
-    let e : 2 * (k + 1) ≡ 2 * k + 1 + 1 = omega arith in
-    let l : 2 * k + 1 < length (set xs (2 * k) a) = simp length-set h in
-    ap (λ m. take m (set (set xs (2 * k) a) (2 * k + 1) b)) e
-    ∙ take_more_set (set xs (2 * k) a) (2 * k + 1) b l
-    ∙ ap (λ ys. ys ++ (b ∷ [])) (take_more_set xs (2 * k) a (omega arith))
-    ∙ append_assoc (take (2 * k) xs) (a ∷ []) (b ∷ [])
-
--- a next literal and a pin more
-pub flop_words : (ws : List ℕ) (n k : ℕ) (f : FlopLine) → k < n → length ws ≡ 2 * n
-    → ◌≡◌ {A = List ℕ × List ℕ}
-    (take (k + 1) (set (set ws k f.next) (n + k) (pin f.third)), take (k + 1) (drop n (set (set ws k f.next) (n + k) (pin f.third))))
-    (with_flop (take k ws, take k (drop n ws)) f)
-flop_words ws n k f h l =
-    let p = pin f.third in
-    let a : take (k + 1) (set (set ws k f.next) (n + k) p) ≡ take k ws ++ (f.next ∷ [])
-    = take-set-le (k + 1) (set ws k f.next) (n + k) p (omega arith) ∙ take_more_set ws k f.next (omega arith) in
-    let d : drop n (set (set ws k f.next) (n + k) p) ≡ set (drop n ws) k p
-    = drop-set-add n (set ws k f.next) k p ∙ ap (λ xs. set xs k p) (drop-set-lt n ws k f.next h) in
-    let b : take (k + 1) (drop n (set (set ws k f.next) (n + k) p)) ≡ take k (drop n ws) ++ (p ∷ [])
-    = ap (take (k + 1)) d ∙ take_more_set (drop n ws) k p (simp length-drop (omega arith)) in
-    cc
-
-pub flop_end : (ws : List ℕ) (n k : ℕ) → n ≤ k → k ≤ n → length ws ≡ 2 * n → ws ≡ take k ws ++ take k (drop n ws)
-flop_end ws n k l h e =
-    let q : k ≡ n = omega arith in
-    let d : take k (drop n ws) ≡ drop n ws = take_all k (drop n ws) (simp length-drop (omega arith)) in
+flops_from : (n j : ℕ) (fs : List FlopLine) (ws : List ℕ) → j + length fs ≡ n → length ws ≡ 2 * n
+    → writes (λ j f ws. set (set ws j f.next) (n + j) (pin f.third)) j fs ws
+    ≡ (take j ws ++ nexts_of fs) ++ (take j (drop n ws) ++ pins_of fs)
+flops_from n j [] ws e l =
+    let q : j ≡ n = omega arith in
+    let d : take j (drop n ws) ≡ drop n ws = take_all j (drop n ws) (simp length-drop (omega arith)) in
     let t : take n ws ++ drop n ws ≡ ws = take-append-drop n ws in
+    let a = append-nil (take j ws) in let b = append-nil (take j (drop n ws)) in
     cc
+flops_from n j (f ∷ fs) ws e l =
+    let p = pin f.third in
+    let vs = set (set ws j f.next) (n + j) p in
+    let i = flops_from n (j + 1) fs vs (omega arith) (simp length-set l) in
+    let a : take (j + 1) vs ≡ take j ws ++ (f.next ∷ [])
+    = take-set-le (j + 1) (set ws j f.next) (n + j) p (omega arith) ∙ take_more_set ws j f.next (omega arith) in
+    let d : drop n vs ≡ set (drop n ws) j p
+    = drop-set-add n (set ws j f.next) j p ∙ ap (λ xs. set xs j p) (drop-set-lt n ws j f.next (omega arith)) in
+    let b : take (j + 1) (drop n vs) ≡ take j (drop n ws) ++ (p ∷ [])
+    = ap (take (j + 1)) d ∙ take_more_set (drop n ws) j p (simp length-drop (omega arith)) in
+    let x = append_assoc (take j ws) (f.next ∷ []) (nexts_of fs) in
+    let y = append_assoc (take j (drop n ws)) (p ∷ []) (pins_of fs) in
+    cc
+
+pub flops_words : WritesWords {X = FlopLine} (λ count j flop words. set (set words j flop.next) (count + j) (pin flop.third)) (λ count. 2 * count)
+    (λ flops. nexts_of flops ++ pins_of flops)
+flops_words n xs ws a b = flops_from n 0 xs ws (omega arith) b

@@ -1,5 +1,5 @@
 -- An accepted reading comes from accepted parts.
-use Rattle.std.proofs.Common.{◌≡◌, ℕ, ◌≤◌, List, ◌++◌, length, take, drop, replicate, Ok, Err, Result, sym, refl, ap, ◌∙◌, arith}
+use Rattle.std.proofs.Common.{◌≡◌, ℕ, ◌≤◌, List, [], ◌++◌, length, take, drop, replicate, Ok, Err, Result, sym, refl, ap, ◌∙◌, arith}
 use Rattle.std.specs.List.{range_with_len}
 use Rattle.aiger.specs.declared.fault.ReadFault.{ReadFault}
 use Rattle.circuits.specs.declared.counts.Counts.{Counts}
@@ -85,28 +85,35 @@ sections_refused : (c : Counts) (t t₁ t₂ t₃ is os : List ℕ) (fs : List F
     → sections c t ≡ Err f
 sections_refused c t t₁ t₂ t₃ is os fs f a b d e = rw (a, b, d, e) refl
 
-pub sections_end : (c : Counts) (t t₁ t₂ t₃ t₄ ws fw ow gw : List ℕ) (r : Result (Unit {0}) ReadFault)
-    → ◌≡◌ {A = Result (Unit {0} × List ℕ) ReadFault} (Ok (tt, t₁)) (as_words {S = Unit {0}} (λ _. tt) (each input_line (range_with_len 0 c.inputs) t))
+pub sections_end : (c : Counts) (t t₁ t₂ t₃ t₄ ws iw fw ow gw : List ℕ) (r : Result (Unit {0}) ReadFault)
+    → Ok (iw, t₁) ≡ as_words (λ _. []) (each input_line (range_with_len 0 c.inputs) t)
     → Ok (fw, t₂) ≡ as_words (λ fs. nexts_of fs ++ pins_of fs) (each (flop_line c) (range_with_len 0 c.flops) t₁)
-    → Ok (ow, t₃) ≡ each (output_line c) (range_with_len 0 c.outputs) t₂
+    → Ok (ow, t₃) ≡ as_words (λ os. os) (each (output_line c) (range_with_len 0 c.outputs) t₂)
     → holding gw t₄ r ≡ as_words (λ gs. operand_words (operands_of gs)) (each (gate_line c) (range_with_len 0 c.gates) t₃)
     → ws ≡ gw ++ (fw ++ ow)
     → holding ws t₄ r ≡ as_words layout (sections c t)
-sections_end c t t₁ t₂ t₃ t₄ ws fw ow gw (Ok x) a b d e w =
-    let i = words_ok {S = Unit {0}} (λ _. tt) (each input_line (range_with_len 0 c.inputs) t) tt t₁ a in
+sections_end c t t₁ t₂ t₃ t₄ ws iw fw ow gw r a b d e w =
+    let i = words_ok (λ _. []) (each input_line (range_with_len 0 c.inputs) t) iw t₁ a in
     let f = words_ok (λ fs. nexts_of fs ++ pins_of fs) (each (flop_line c) (range_with_len 0 c.flops) t₁) fw t₂ b in
-    let g = words_ok (λ gs. operand_words (operands_of gs)) (each (gate_line c) (range_with_len 0 c.gates) t₃) gw t₄ e in
-    let s : as_words layout (sections c t) ≡ Ok (layout (net_of c f.0 ow g.0), t₄)
-    = ap (as_words layout) (sections_read c t t₁ t₂ t₃ t₄ i.0 ow f.0 g.0 i.1.0 f.1.0 (sym d) g.1.0) in
-    let v : ws ≡ layout (net_of c f.0 ow g.0)
-    = w ∙ ap (λ (y : List ℕ). y ++ (fw ++ ow)) (sym g.1.1) ∙ ap (λ (y : List ℕ). operand_words (operands_of g.0) ++ (y ++ ow)) (sym f.1.1)
-    ∙ ap (λ (y : List ℕ). operand_words (operands_of g.0) ++ y) (append_assoc (nexts_of f.0) (pins_of f.0) ow) in
-    ap (λ (y : List ℕ). Ok (y, t₄)) v ∙ sym s
-sections_end c t t₁ t₂ t₃ t₄ ws fw ow gw (Err x) a b d e w =
-    let i = words_ok {S = Unit {0}} (λ _. tt) (each input_line (range_with_len 0 c.inputs) t) tt t₁ a in
-    let f = words_ok (λ fs. nexts_of fs ++ pins_of fs) (each (flop_line c) (range_with_len 0 c.flops) t₁) fw t₂ b in
-    let g₁ = words_err (λ gs. operand_words (operands_of gs)) (each (gate_line c) (range_with_len 0 c.gates) t₃) x e in
-    sym (ap (as_words layout) (sections_refused c t t₁ t₂ t₃ i.0 ow f.0 x i.1.0 f.1.0 (sym d) g₁))
+    let o = words_ok (λ os. os) (each (output_line c) (range_with_len 0 c.outputs) t₂) ow t₃ d in
+    at i.0 o.0 f.0 i.1.0 f.1.0 o.1.0 f.1.1 o.1.1 r e
+  where
+    at : (is os : List ℕ) (fs : List FlopLine)
+        → each input_line (range_with_len 0 c.inputs) t ≡ Ok (is, t₁) → each (flop_line c) (range_with_len 0 c.flops) t₁ ≡ Ok (fs, t₂)
+        → each (output_line c) (range_with_len 0 c.outputs) t₂ ≡ Ok (os, t₃)
+        → nexts_of fs ++ pins_of fs ≡ fw → os ≡ ow
+        → (r : Result (Unit {0}) ReadFault)
+        → holding gw t₄ r ≡ as_words (λ gs. operand_words (operands_of gs)) (each (gate_line c) (range_with_len 0 c.gates) t₃)
+        → holding ws t₄ r ≡ as_words layout (sections c t)
+    at is os fs i f o x y (Ok u) e =
+        let g = words_ok (λ gs. operand_words (operands_of gs)) (each (gate_line c) (range_with_len 0 c.gates) t₃) gw t₄ e in
+        let v = g.1.1 in
+        let z = append_assoc (nexts_of fs) (pins_of fs) os in
+        let q : ws ≡ layout (net_of c fs os g.0) = cc in
+        ap (λ (y : List ℕ). Ok (y, t₄)) q ∙ sym (ap (as_words layout) (sections_read c t t₁ t₂ t₃ t₄ is os fs g.0 i f o g.1.0))
+    at is os fs i f o x y (Err u) e =
+        let g = words_err (λ gs. operand_words (operands_of gs)) (each (gate_line c) (range_with_len 0 c.gates) t₃) u e in
+        sym (ap (as_words layout) (sections_refused c t t₁ t₂ t₃ is os fs u i f o g))
 
 -- line 1 accepted: what is read after it, where only its counts were kept
 reading_on : (lent : ℕ) (t t₁ : List ℕ) (c : Counts) → Ok (c, t₁) ≡ as_words (λ h. h.counts) (header_line lent t)

@@ -2,6 +2,11 @@
 #![tactic(auto)]
 
 pub mod fault;
+mod flops;
+mod gates;
+mod inputs;
 mod lines;
+mod outputs;
 pub mod reading;
+mod section;
 mod sizes;

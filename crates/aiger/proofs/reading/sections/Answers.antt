@@ -1,21 +1,30 @@
-use Rattle.std.proofs.Common.{◌≡◌, ◌+◌, ◌-◌, ◌*◌, length, refl, arith}
-use Rattle.aiger.proofs.Places.{laid_front, laid_later}
+use Rattle.std.proofs.Common.{◌*◌, ◌∙◌, arith}
+use Rattle.aiger.proofs.Places.{parts_front, parts_later, drop_thrice}
+use Rattle.aiger.proofs.Sections.{inputs_words, flops_words, outputs_words, gates_words}
 use Rattle.aiger.proofs.Steps.{sections_end}
 use Rattle.aiger.proofs.reading.sections.Goals as goal
 
-pub returns : goal.returns
-returns c =
-    let g = 2 * c.args.sizes.counts.gates in
-    let e = g + 2 * c.args.sizes.counts.flops in
-    let n = e + c.args.sizes.counts.outputs in
-    let lf : length c.flops.new.words ≡ e - g = omega arith in
-    let lo : length c.outputs.new.words ≡ n - e = omega arith in
-    let lg : length c.gates.new.words ≡ g - 0 = omega arith in
-    record {
-      front = sections_end c.args.sizes.counts _ _ _ _ _ _ _ _ _ c.gates.result
-          c.in_ok-inputs.ensures c.in_ok-flops.ensures c.in_ok-outputs.ensures c.gates.ensures
-          (laid_front c.args.words.now c.flops.new.words c.outputs.new.words c.gates.new.words
-          g e n (e - g) (n - e) (g - 0) refl refl (omega arith) (omega arith) (omega arith) (omega arith) lf lo lg);
-      later = λ ok. laid_later c.args.words.now c.flops.new.words c.outputs.new.words c.gates.new.words
-          g e n (e - g) (n - e) (g - 0) refl refl (omega arith) (omega arith) (omega arith) (omega arith) lf lo lg;
-    }
+pub read_section-requires-clause-writes_words : goal.read_section-requires-clause-writes_words
+read_section-requires-clause-writes_words c = inputs_words
+
+pub read_section-requires-2-clause-writes_words : goal.read_section-requires-2-clause-writes_words
+read_section-requires-2-clause-writes_words c = flops_words
+
+pub read_section-requires-3-clause-writes_words : goal.read_section-requires-3-clause-writes_words
+read_section-requires-3-clause-writes_words c = outputs_words
+
+pub read_section-requires-4-clause-writes_words : goal.read_section-requires-4-clause-writes_words
+read_section-requires-4-clause-writes_words c = gates_words
+
+pub returns-clause-front : goal.returns-clause-front
+returns-clause-front c =
+    sections_end c.args.sizes.counts _ _ _ _ _ _ _ _ _ _ c.read_section-4.result
+    c.in_ok-read_section.ensures c.in_ok-read_section-2.ensures c.in_ok-read_section-3.ensures c.read_section-4.ensures
+    (parts_front c.read_section-4.new.words c.read_section-2.new.words c.read_section-3.new.words _ _ (omega arith))
+
+pub returns-clause-later : goal.returns-clause-later
+returns-clause-later c ok =
+    let k = c.args.sizes.counts in
+    parts_later c.read_section-4.new.words c.read_section-2.new.words c.read_section-3.new.words _ _ (omega arith)
+    ∙ rw (c.split_at_mut-output_words.ensures.back, c.split_at_mut-flop_words.ensures.back, c.split_at_mut-gate_words.ensures.back)
+    (drop_thrice (2 * k.gates) (2 * k.flops) k.outputs c.args.words.now)

@@ -1,0 +1,49 @@
+ghost use Rattle.std.specs.Prelude.{◌+◌, ◌*◌, slice_set};
+ghost use Rattle.circuits.specs.Net.{operand_words};
+ghost use Rattle.aiger.specs.Reading as spec;
+
+use crate::fault::{ReadFault, Refusal};
+use crate::lines::{GateLine, Lines};
+use crate::section::Section;
+use crate::sizes::Sizes;
+use circuits::counts::Counts;
+
+// The gates' lines, whose words are the two operands of each.
+pub(crate) struct Gates;
+
+impl Section for Gates {
+    type Line = GateLine;
+
+    ghost count_of = { λ counts. counts.gates };
+
+    ghost line_read = { spec.gate_line };
+
+    ghost words_of = { λ gates. operand_words (spec.operands_of gates) };
+
+    ghost room_of = { λ count. 2 * count };
+
+    ghost written = { λ _ i gate words. slice_set (slice_set words (2 * i) gate.left) (2 * i + 1) gate.right };
+
+    fn count(counts: Counts) -> u32 {
+        counts.gates
+    }
+
+    fn line(lines: &mut Lines, sizes: Sizes, i: u32) -> Result<GateLine, ReadFault> {
+        let counts = sizes.counts;
+        let line = 2 + counts.inputs + counts.flops + counts.outputs + i;
+        let own = 2 * (1 + counts.inputs + counts.flops + i);
+        let gate = lines.gate().ok_or(Refusal::MalformedLine.at(line))?;
+        if gate.own != own {
+            return Err(Refusal::WrongLiteral.at(line));
+        }
+        if gate.left >= own || gate.right >= own {
+            return Err(Refusal::LargeLiteral.at(line));
+        }
+        Ok(gate)
+    }
+
+    fn write(gate: GateLine, words: &mut [u32], _count: usize, i: usize) {
+        words[2 * i] = gate.left;
+        words[2 * i + 1] = gate.right;
+    }
+}

@@ -1,0 +1,40 @@
+ghost use Rattle.std.specs.Prelude.{[]};
+ghost use Rattle.aiger.specs.Reading as spec;
+
+use crate::fault::{ReadFault, Refusal};
+use crate::lines::Lines;
+use crate::section::Section;
+use crate::sizes::Sizes;
+use circuits::counts::Counts;
+
+// The inputs' lines, of which no word is kept.
+pub(crate) struct Inputs;
+
+impl Section for Inputs {
+    type Line = u32;
+
+    ghost count_of = { λ counts. counts.inputs };
+
+    ghost line_read = { λ _. spec.input_line };
+
+    ghost words_of = { λ _. [] };
+
+    ghost room_of = { λ _. 0 };
+
+    ghost written = { λ _ _ _ words. words };
+
+    fn count(counts: Counts) -> u32 {
+        counts.inputs
+    }
+
+    fn line(lines: &mut Lines, sizes: Sizes, i: u32) -> Result<u32, ReadFault> {
+        let line = 2 + i;
+        let literal = lines.single().ok_or(Refusal::MalformedLine.at(line))?;
+        if literal != 2 * (1 + i) {
+            return Err(Refusal::WrongLiteral.at(line));
+        }
+        Ok(literal)
+    }
+
+    fn write(_literal: u32, _words: &mut [u32], _count: usize, _i: usize) {}
+}

@@ -1,0 +1,43 @@
+ghost use Rattle.std.specs.Prelude.{slice_set};
+ghost use Rattle.aiger.specs.Reading as spec;
+
+use crate::fault::{ReadFault, Refusal};
+use crate::lines::Lines;
+use crate::section::Section;
+use crate::sizes::Sizes;
+use circuits::counts::Counts;
+
+// The outputs' lines, whose literals are their words.
+pub(crate) struct Outputs;
+
+impl Section for Outputs {
+    type Line = u32;
+
+    ghost count_of = { λ counts. counts.outputs };
+
+    ghost line_read = { spec.output_line };
+
+    ghost words_of = { λ literals. literals };
+
+    ghost room_of = { λ count. count };
+
+    ghost written = { λ _ j literal words. slice_set words j literal };
+
+    fn count(counts: Counts) -> u32 {
+        counts.outputs
+    }
+
+    fn line(lines: &mut Lines, sizes: Sizes, j: u32) -> Result<u32, ReadFault> {
+        let counts = sizes.counts;
+        let line = 2 + counts.inputs + counts.flops + j;
+        let literal = lines.single().ok_or(Refusal::MalformedLine.at(line))?;
+        if u64::from(literal) > counts.largest_literal() {
+            return Err(Refusal::LargeLiteral.at(line));
+        }
+        Ok(literal)
+    }
+
+    fn write(literal: u32, words: &mut [u32], _count: usize, j: usize) {
+        words[j] = literal;
+    }
+}
