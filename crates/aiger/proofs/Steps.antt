@@ -1,5 +1,5 @@
 -- An accepted reading comes from accepted parts.
-use Rattle.std.proofs.Common.{◌≡◌, ℕ, ◌≤◌, List, [], ◌++◌, length, take, drop, replicate, Ok, Err, Result, sym, refl, ap, ◌∙◌, arith}
+use Rattle.std.proofs.Common.{◌≡◌, ℕ, ◌≤◌, List, [], ◌++◌, length, take, drop, replicate, Ok, Err, OnOk, Result, sym, refl, ap, ◌∙◌, arith}
 use Rattle.std.specs.List.{range_with_len}
 use Rattle.aiger.specs.declared.fault.ReadFault.{ReadFault}
 use Rattle.circuits.specs.declared.counts.Counts.{Counts}
@@ -114,6 +114,10 @@ sections_end c t t₁ t₂ t₃ t₄ ws iw fw ow gw r a b d e w =
     at is os fs i f o x y (Err u) e =
         let g = words_err (λ gs. operand_words (operands_of gs)) (each (gate_line c) (range_with_len 0 c.gates) t₃) u e in
         sym (ap (as_words layout) (sections_refused c t t₁ t₂ t₃ is os fs u i f o g))
+
+pub on_ok : {X F P : Type 0} (r : Result X F) → P → OnOk r P
+on_ok (Ok x) p = p
+on_ok (Err f) p = tt
 
 -- line 1 accepted: what is read after it, where only its counts were kept
 reading_on : (lent : ℕ) (t t₁ : List ℕ) (c : Counts) → Ok (c, t₁) ≡ as_words (λ h. h.counts) (header_line lent t)

@@ -42,13 +42,14 @@ impl Section for Flops {
 
     ghost room_of = { λ count. 2 * count };
 
-    ghost written = { λ count j flop words. slice_set (slice_set words j flop.next) (count + j) (spec.pin flop.third) };
+    ghost line_written = { λ count j flop words.
+        slice_set (slice_set words j flop.next) (count + j) (spec.pin flop.third) };
 
     fn count(counts: Counts) -> u32 {
         counts.flops
     }
 
-    fn line(lines: &mut Lines, sizes: Sizes, j: u32) -> Result<FlopLine, ReadFault> {
+    fn read(lines: &mut Lines, sizes: Sizes, j: u32) -> Result<FlopLine, ReadFault> {
         let counts = sizes.counts;
         let line = 2 + counts.inputs + j;
         let own = 2 * (1 + counts.inputs + j);

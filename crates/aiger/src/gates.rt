@@ -22,13 +22,14 @@ impl Section for Gates {
 
     ghost room_of = { λ count. 2 * count };
 
-    ghost written = { λ _ i gate words. slice_set (slice_set words (2 * i) gate.left) (2 * i + 1) gate.right };
+    ghost line_written = { λ _ i gate words.
+        slice_set (slice_set words (2 * i) gate.left) (2 * i + 1) gate.right };
 
     fn count(counts: Counts) -> u32 {
         counts.gates
     }
 
-    fn line(lines: &mut Lines, sizes: Sizes, i: u32) -> Result<GateLine, ReadFault> {
+    fn read(lines: &mut Lines, sizes: Sizes, i: u32) -> Result<GateLine, ReadFault> {
         let counts = sizes.counts;
         let line = 2 + counts.inputs + counts.flops + counts.outputs + i;
         let own = 2 * (1 + counts.inputs + counts.flops + i);

@@ -21,13 +21,13 @@ impl Section for Inputs {
 
     ghost room_of = { λ _. 0 };
 
-    ghost written = { λ _ _ _ words. words };
+    ghost line_written = { λ _ _ _ words. words };
 
     fn count(counts: Counts) -> u32 {
         counts.inputs
     }
 
-    fn line(lines: &mut Lines, sizes: Sizes, i: u32) -> Result<u32, ReadFault> {
+    fn read(lines: &mut Lines, sizes: Sizes, i: u32) -> Result<u32, ReadFault> {
         let line = 2 + i;
         let literal = lines.single().ok_or(Refusal::MalformedLine.at(line))?;
         if literal != 2 * (1 + i) {

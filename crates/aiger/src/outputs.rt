@@ -21,13 +21,13 @@ impl Section for Outputs {
 
     ghost room_of = { λ count. count };
 
-    ghost written = { λ _ j literal words. slice_set words j literal };
+    ghost line_written = { λ _ j literal words. slice_set words j literal };
 
     fn count(counts: Counts) -> u32 {
         counts.outputs
     }
 
-    fn line(lines: &mut Lines, sizes: Sizes, j: u32) -> Result<u32, ReadFault> {
+    fn read(lines: &mut Lines, sizes: Sizes, j: u32) -> Result<u32, ReadFault> {
         let counts = sizes.counts;
         let line = 2 + counts.inputs + counts.flops + j;
         let literal = lines.single().ok_or(Refusal::MalformedLine.at(line))?;

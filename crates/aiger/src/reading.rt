@@ -1,5 +1,5 @@
 // Reading a netlist's text into lent words.
-ghost use Rattle.std.specs.Prelude.{◌≡◌, ◌≤◌, true, length, take, drop, replicate, is_ok, IfOk, Ok, Err};
+ghost use Rattle.std.specs.Prelude.{◌≡◌, ◌≤◌, length, take, drop, replicate, IfOk, OnOk, Ok, Err};
 ghost use Rattle.circuits.specs.Net.{layout, room};
 ghost use Rattle.aiger.specs.Beside.{beside_result, holding, as_words};
 ghost use Rattle.aiger.specs.Reading as spec;
@@ -15,14 +15,15 @@ use crate::section::read_section;
 use crate::sizes::Sizes;
 use circuits::counts::Counts;
 
-fn counts_fit(h: &Header) -> bool
-    ensures { result ≡ spec.counts_fit h.now }
+fn counts_fit(header: &Header) -> bool
+    ensures { result ≡ spec.counts_fit header.now }
 {
-    h.counts.in_bounds() && u64::from(h.last) == h.counts.last_net()
+    header.counts.in_bounds() && u64::from(header.last) == header.counts.last_net()
 }
 
 fn header_line(lines: &mut Lines, lent: usize) -> Result<Sizes, ReadFault>
-    ensures line { as_words (λ sizes. sizes.counts) (beside_result lines.new.rest.now result) ≡ as_words (λ h. h.counts) (spec.header_line lent lines.old.rest.now) }
+    ensures line { as_words (λ sizes. sizes.counts) (beside_result lines.new.rest.now result)
+        ≡ as_words (λ header. header.counts) (spec.header_line lent lines.old.rest.now) }
     ensures fits { IfOk result (λ sizes. room sizes.counts ≤ lent) }
 {
     let header = lines.header().ok_or(Refusal::MalformedHeader.at(1))?;
@@ -40,9 +41,11 @@ fn header_line(lines: &mut Lines, lent: usize) -> Result<Sizes, ReadFault>
 
 // Reads what follows line 1, and writes the circuit's words to the front of `words`.
 fn sections(lines: &mut Lines, sizes: Sizes, words: &mut [u32]) -> Result<(), ReadFault>
-    requires { (room sizes.counts ≤ length words.old) }
-    ensures front { holding (take (room sizes.counts) words.new) lines.new.rest.now result ≡ as_words layout (spec.sections sizes.counts lines.old.rest.now) }
-    ensures later { is_ok result ≡ true → drop (room sizes.counts) words.new ≡ drop (room sizes.counts) words.old }
+    requires { room sizes.counts ≤ length words.old }
+    ensures front { holding (take (room sizes.counts) words.new) lines.new.rest.now result
+        ≡ as_words layout (spec.sections sizes.counts lines.old.rest.now) }
+    ensures later { OnOk result
+        (drop (room sizes.counts) words.new ≡ drop (room sizes.counts) words.old) }
 {
     let Counts {
         flops,
@@ -62,7 +65,8 @@ fn sections(lines: &mut Lines, sizes: Sizes, words: &mut [u32]) -> Result<(), Re
 // Writes the circuit's words to the front of `words`, or says why not.
 fn fill(text: &[u8], words: &mut [u32]) -> Result<Counts, ReadFault>
     ensures answer { result ≡ spec.answered (spec.reading (length words.old) text.now) }
-    ensures written { elim result [ Ok c ↦ words.new | Err f ↦ replicate (length words.old) 0 ] ≡ spec.words_after (spec.reading (length words.old) text.now) words.old }
+    ensures written { elim result [ Ok c ↦ words.new | Err f ↦ replicate (length words.old) 0 ]
+        ≡ spec.words_after (spec.reading (length words.old) text.now) words.old }
     ensures laws { Laws (length words.old) text.now }
 {
     let mut lines = Lines::new(text);
@@ -78,11 +82,9 @@ pub fn read(text: &[u8], words: &mut [u32]) -> Result<Counts, ReadFault>
     ensures written { words.new ≡ spec.words_after (spec.reading (length words.old) text.now) words.old }
     ensures laws { Laws (length words.old) text.now }
 {
-    match fill(text, words) {
-        Ok(counts) => Ok(counts),
-        Err(fault) => {
-            words.fill(0);
-            Err(fault)
-        }
+    let answer = fill(text, words);
+    if answer.is_err() {
+        words.fill(0);
     }
+    answer
 }

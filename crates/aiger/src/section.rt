@@ -17,46 +17,50 @@ pub(crate) trait Section {
     // What is read of a line.
     type Line;
 
+    // How many lines there are, and what line i of them is read as.
     ghost count_of: { Counts → ℕ };
 
-    // What line i of them is read as.
     ghost line_read: { Counts → ℕ → List ℕ → Result (Self.Line × List ℕ) ReadFault };
 
-    // The words that all lines make together, and how many those are for so many lines.
+    // The words that all lines make together, and how many those are, by the number of lines.
     ghost words_of: { List Self.Line → List ℕ };
 
     ghost room_of: { ℕ → ℕ };
 
-    // The words after line i of so many has been written into them.
-    ghost written: { ℕ → ℕ → Self.Line → List ℕ → List ℕ };
+    // The words once line i of so many is written into them.
+    ghost line_written: { ℕ → ℕ → Self.Line → List ℕ → List ℕ };
 
     fn count(counts: Counts) -> u32
         ensures { result ≡ count_of counts };
 
-    fn line(lines: &mut Lines, sizes: Sizes, i: u32) -> Result<Self::Line, ReadFault>
+    fn read(lines: &mut Lines, sizes: Sizes, i: u32) -> Result<Self::Line, ReadFault>
         requires { i < count_of sizes.counts }
-        ensures { beside_result lines.new.rest.now result ≡ line_read sizes.counts i lines.old.rest.now };
+        ensures { beside_result lines.new.rest.now result
+            ≡ line_read sizes.counts i lines.old.rest.now };
 
     fn write(line: Self::Line, words: &mut [u32], count: usize, i: usize)
         requires counted { i < count }
         requires fits { length words.old ≡ room_of count }
-        ensures { words.new ≡ written count i line words.old };
+        ensures { words.new ≡ line_written count i line words.old };
 }
 
-// Reads the lines of a section, and writes their words.
+// Reads the lines of a section, and writes their words. That the writes make exactly those words is asked of the caller: as
+// a law of the trait it would have to be proved in specs/.
 pub(crate) fn read_section<S: Section>(
     lines: &mut Lines,
     sizes: Sizes,
     words: &mut [u32],
 ) -> Result<(), ReadFault>
-    requires writes_words { WritesWords S.written S.room_of S.words_of }
+    requires writes_words { WritesWords S.line_written S.room_of S.words_of }
     requires fits { length words.old ≡ S.room_of (S.count_of sizes.counts) }
     ensures { holding words.new lines.new.rest.now result
-        ≡ as_words S.words_of (each (S.line_read sizes.counts) (range_with_len 0 (S.count_of sizes.counts)) lines.old.rest.now) }
+        ≡ as_words S.words_of
+        (each (S.line_read sizes.counts) (range_with_len 0 (S.count_of sizes.counts))
+        lines.old.rest.now) }
 {
     let count = S::count(sizes.counts) as usize;
     for i in 0..count {
-        let line = S::line(lines, sizes, i as u32)?;
+        let line = S::read(lines, sizes, i as u32)?;
         S::write(line, words, count, i);
     }
     Ok(())

@@ -1,4 +1,4 @@
-use Rattle.std.proofs.Common.{refl, arith}
+use Rattle.std.proofs.Common.{arith}
 use Rattle.std.proofs.lemmas.Result.{err_from_is_err_and}
 use Rattle.aiger.proofs.LawsOfReading.{laws}
 use Rattle.aiger.proofs.Steps.{accepted_words, header_refused, later_refused}
@@ -21,6 +21,6 @@ pub returns : goal.returns
 returns c =
     let p = accepted_words _ c.args.text.now _ _ _ c.args.words.now c.sections.new.words c.in_ok-sizes.sizes.counts
     c.new-lines.ensures c.in_ok-sizes.ensures.line
-    c.in_ok-sections.ensures.front (c.in_ok-sections.ensures.later refl)
+    c.in_ok-sections.ensures.front c.in_ok-sections.ensures.later
     (omega (arith, c.in_ok-sizes.ensures.fits)) in
     record { answer = p.0; written = p.1; laws = laws _ _ }
