@@ -17,7 +17,8 @@ use Rattle.aiger.specs.Written.{line, header_text, input_text, flop_text, output
 use Rattle.aiger.specs.Laws.{AcceptsWritten}
 use Rattle.aiger.proofs.Checks.{judged_parts, counts_fit_parts, third_back, pin_in}
 use Rattle.aiger.proofs.LineForms.{lines_exact}
-use Rattle.aiger.proofs.Steps.{onward_parts, same_ok, Parts, sections_parts}
+use Rattle.aiger.proofs.Texts.{text_ends}
+use Rattle.aiger.proofs.Steps.{onward_parts, net_kept, Parts, sections_parts}
 
 -- lines of one kind, where an accepted line was written so and is good
 module _ {X : Type 0} (d : X) (read : ℕ → List ℕ → Result (X × List ℕ) ReadFault) (write : X → List ℕ) (Good : ℕ → X → Type 0)
@@ -45,7 +46,7 @@ module _ {X : Type 0} (d : X) (read : ℕ → List ℕ → Result (X × List ℕ
 
   pub all_read : (a n : ℕ) (t : List ℕ) (xs : List X) (u : List ℕ) → each read (range_with_len a n) t ≡ Ok (xs, u) → AllRead a n t xs u
   all_read a zero t xs u e =
-      let q = same_ok _ _ e in
+      let q : ◌≡◌ {A = List X × List ℕ} ([], t) (xs, u) = cc in
       let p : [] ≡ xs = ap (λ (y : List X × List ℕ). y.0) q in let r : t ≡ u = ap (λ (y : List X × List ℕ). y.1) q in
       record {
         as_many = sym (ap length p);
@@ -55,7 +56,7 @@ module _ {X : Type 0} (d : X) (read : ℕ → List ℕ → Result (X × List ℕ
   all_read a (suc n) t xs u e =
       let b = onward_parts (read a t) _ (xs, u) e in
       let c = onward_parts (each read (range_with_len (a + 1) n) b.0.1) _ (xs, u) b.1.1 in
-      let q = same_ok _ _ c.1.1 in
+      let q : ◌≡◌ {A = List X × List ℕ} (b.0.0 ∷ c.0.0, c.0.1) (xs, u) = cc in
       let p : b.0.0 ∷ c.0.0 ≡ xs = ap (λ (y : List X × List ℕ). y.0) q in
       let r : c.0.1 ≡ u = ap (λ (y : List X × List ℕ). y.1) q in
       let m = all_read_more a n t b.0.1 c.0.1 b.0.0 c.0.0 (one a t b.0.1 b.0.0 b.1.0)
@@ -199,10 +200,9 @@ pub accepts_written : (lent : ℕ) (t : List ℕ) → AcceptsWritten lent t
 accepts_written lent t net e =
     let a = onward_parts (header_line lent t) _ net e in
     let h = a.0.0 in let u = a.0.1 in
-    let s = onward_parts (sections h.counts u) _ net a.1.1 in
-    let n : s.0.0 ≡ net = same_ok _ _ s.1.1 in
-    let r = s.0.1 in
-    let p = sections_parts h.counts u net r (s.1.0 ∙ ap (λ (m : Net). Ok (m, r)) n) in
+    let s = net_kept (sections h.counts u) net a.1.1 in
+    let r = s.0 in
+    let p = sections_parts h.counts u net r s.1 in
     let k = header_accepted lent t u h a.1.0 in
     let q = sections_accepted h.counts u r net k.0 p in
     let c : h.counts ≡ net.counts = sym (ap (λ (m : Net). m.counts) p.net_is) in
@@ -213,5 +213,5 @@ accepts_written lent t net e =
     ++ (flat_map (output_text net) (range_with_len 0 net.counts.outputs) ++ (flat_map (gate_text net) (range_with_len 0 net.counts.gates) ++ r))))
     = subst (λ (d : Counts). t ≡ header_text d ++ (flat_map input_text (range_with_len 0 d.inputs) ++ (flat_map (flop_text net q.1.0) (range_with_len 0 d.flops)
     ++ (flat_map (output_text net) (range_with_len 0 d.outputs) ++ (flat_map (gate_text net) (range_with_len 0 d.gates) ++ r))))) c whole in
-    let form : t ≡ text net q.1.0 ++ r = here ∙ sym (simp append_assoc) in
+    let form : t ≡ text net q.1.0 ++ r = here ∙ sym (text_ends net q.1.0 r) in
     (q.0, (q.1.0, (r, form)), subst (λ (d : Counts). room d ≤ lent) c k.1)

@@ -12,7 +12,6 @@ use Rattle.circuits.proofs.Checking.{all_passed}
 use Rattle.aiger.specs.Reading.{judged, refused, counts_fit, is_third, pin}
 use Rattle.circuits.specs.Checks.{Check, first_due}
 use Rattle.aiger.specs.Written.{third_number}
-use Rattle.aiger.proofs.Steps.{never_both, same_ok}
 
 pub passed : {X : Type 0} (k : ℕ) (r : Refusal) (o : Option (X × List ℕ)) (checks : X → List (Check Refusal)) (x : X) (t : List ℕ)
     → o ≡ Some (x, t) → first_due (checks x) ≡ None → judged k r o checks ≡ Ok (x, t)
@@ -21,12 +20,12 @@ passed k r o checks x t e f =
 
 none_due : {X : Type 0} (k : ℕ) (o : Option Refusal) (p q : X × List ℕ)
     → ◌≡◌ {A = Result (X × List ℕ) ReadFault} (elim o [ None ↦ Ok p | Some r ↦ refused k r ]) (Ok q) → (o ≡ None) × (p ≡ q)
-none_due k None p q e = (refl, same_ok p q e)
-none_due k (Some r) p q e = absurd (never_both _ q e)
+none_due k None p q e = (refl, cc)
+none_due k (Some r) p q e = absurd (cc)
 
 pub judged_parts : {X : Type 0} (k : ℕ) (r : Refusal) (o : Option (X × List ℕ)) (checks : X → List (Check Refusal)) (p : X × List ℕ)
     → judged k r o checks ≡ Ok p → (o ≡ Some p) × AllByRecursion (λ c. c.1 ≡ false) (checks p.0)
-judged_parts k r None checks p e = absurd (never_both _ p e)
+judged_parts k r None checks p e = absurd (cc)
 judged_parts {X = X} k r (Some q) checks p e =
     let n = none_due k (first_due (checks q.0)) q p e in (
       ap (λ (x : X × List ℕ). Some x) n.1,

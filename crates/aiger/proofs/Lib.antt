@@ -5,6 +5,7 @@ pub mod Steps
 pub mod Numerals
 pub mod LineForms
 pub mod Checks
+pub mod Texts
 pub mod ReadBack
 pub mod Accepted
 pub mod Order

@@ -9,7 +9,7 @@ use Rattle.aiger.specs.declared.lines.GateLine.{GateLine}
 use Rattle.aiger.specs.Lines.{then, byte, numeral, field, single, third, flop, gate, header}
 use Rattle.aiger.specs.Written.{further, line, StartsLine}
 use Rattle.aiger.specs.Laws.{LinesExact}
-use Rattle.aiger.proofs.Numerals.{numeral_read, numeral_exact, none_some}
+use Rattle.aiger.proofs.Numerals.{numeral_read, numeral_exact}
 
 -- what is written is read
 
@@ -48,7 +48,7 @@ header_read m i l o a t hm hi hl ho ha =
 
 then_parts : {X Y : Type 0} (o : Option (X × List ℕ)) (f : X → List ℕ → Option Y) (y : Y) → then o f ≡ Some y
     → (p : X × List ℕ) × ((o ≡ Some p) × (f p.0 p.1 ≡ Some y))
-then_parts None f y e = absurd (none_some None y refl e)
+then_parts None f y e = absurd (cc)
 then_parts (Some p) f y e = (p, (refl, e))
 
 some_parts : {X : Type 0} (x y : X) (t u : List ℕ) → ◌≡◌ {A = Option (X × List ℕ)} (Some (x, t)) (Some (y, u)) → (x ≡ y) × (t ≡ u)
@@ -56,14 +56,14 @@ some_parts {X = X} x y t u e =
     let w : ◌≡◌ {A = X × List ℕ} (x, t) (y, u) = cc in (ap (λ (p : X × List ℕ). p.0) w, ap (λ (p : X × List ℕ). p.1) w)
 
 byte_exact : (b : ℕ) (t : List ℕ) (p : Unit {0} × List ℕ) → byte b t ≡ Some p → t ≡ b ∷ p.1
-byte_exact b [] p e = absurd (none_some (byte b []) p refl e)
+byte_exact b [] p e = absurd (cc)
 byte_exact b (x ∷ t) p e = elim (cases_Bool (eqb x b)) [
   | inl is ↦
       let o : x ≡ b = eqb-true x b is in
       let f : ◌≡◌ {A = Option (Unit {0} × List ℕ)} (Some (tt, t)) (Some p) = sym (ap (λ q. cond q (Some (tt, t)) None) is) ∙ e in
       let q = some_parts tt p.0 t p.1 f in
       let q₁ = q.1 in cc
-  | inr no' ↦ absurd (none_some (byte b (x ∷ t)) p (ap (λ q. cond q (Some (tt, t)) None) no') e)
+  | inr no' ↦ let z : byte b (x ∷ t) ≡ None = rw no' refl in absurd (cc)
 ]
 
 -- u begins with the fields of these numbers and the end of the line, and v follows

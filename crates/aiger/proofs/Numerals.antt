@@ -41,9 +41,6 @@ numeral_read (suc m) b t h e = scanned (suc m) (omega arith) h (b ∷ t) ∙ sto
 abbrev pub Begins : List ℕ → ℕ → List ℕ → Type 0
 Begins t n u = (t ≡ decimal n ++ u) × (n < 2 ^ 32)
 
-pub none_some : {X : Type 0} (o : Option X) (x : X) → o ≡ None → o ≡ Some x → ⊥
-none_some o x p q = let z : ◌≡◌ {A = ℕ} 0 1 = cc in omega arith
-
 digit_parts : (b : ℕ) → is_digit b ≡ true → (48 ≤ b) × (b ≤ 57)
 digit_parts b e = let p = and_parts (leb 48 b) (leb b 57) e in (leb-true 48 b p.0, leb-true b 57 p.1)
 
@@ -69,7 +66,7 @@ digits_exact (b ∷ t) u n m p h e = elim (cases_Bool (is_digit b)) [
       = sym (ap (λ q. cond q (cond (ltb (n * 10 + (b - 48)) (2 ^ 32)) (digits (n * 10 + (b - 48)) t) None) (Some (n, b ∷ t))) is) ∙ e in
       let d = digit_parts b is in
       elim (cases_Bool (ltb (n * 10 + (b - 48)) (2 ^ 32))) [
-        | inr big ↦ absurd (none_some _ (m, u) (ap (λ q. cond q (digits (n * 10 + (b - 48)) t) None) big) f)
+        | inr big ↦ let z = ap (λ q. cond q (digits (n * 10 + (b - 48)) t) None) big in absurd (cc)
         | inl small ↦
             let s = ltb-true (n * 10 + (b - 48)) (2 ^ 32) small in
             let i = digits_exact t u (n * 10 + (b - 48)) m (omega arith) s (sym (ap (λ q. cond q (digits (n * 10 + (b - 48)) t) None) small) ∙ f) in
@@ -78,9 +75,9 @@ digits_exact (b ∷ t) u n m p h e = elim (cases_Bool (is_digit b)) [
 ]
 
 pub numeral_exact : (t u : List ℕ) (n : ℕ) → numeral t ≡ Some (n, u) → Begins t n u
-numeral_exact [] u n e = absurd (none_some (numeral []) (n, u) refl e)
+numeral_exact [] u n e = absurd (cc)
 numeral_exact (b ∷ t) u n e = elim (cases_Bool (is_digit b)) [
-  | inr no' ↦ absurd (none_some (numeral (b ∷ t)) (n, u) (rw no' refl) e)
+  | inr no' ↦ let z : numeral (b ∷ t) ≡ None = rw no' refl in absurd (cc)
   | inl is ↦
       let d = digit_parts b is in
       let f : cond (eqb (b - 48) 0) (Some (0, t)) (digits (b - 48) t) ≡ Some (n, u)

@@ -12,11 +12,12 @@ use Rattle.aiger.specs.declared.lines.FlopLine.{FlopLine}
 use Rattle.aiger.specs.declared.lines.GateLine.{GateLine}
 use Rattle.circuits.specs.Net.{Net, Bounded, last_net, top, input_literal, flop_literal, gate_literal, gate_at, next_at, pin_at, out_at, room}
 use Rattle.aiger.specs.Reading.{each, onward, input_line, flop_line, output_line, gate_line, header_line, net_of, sections, pin}
-use Rattle.aiger.specs.Written.{line, header_text, input_text, flop_text, output_text, gate_text, text}
+use Rattle.aiger.specs.Written.{line, header_text, input_text, flop_text, output_text, gate_text}
 use Rattle.aiger.specs.Laws.{ReadsBack}
 use Rattle.aiger.proofs.Checks.{passed, counts_fit_from, third_of, third_is, third_fits, third_pin}
 use Rattle.aiger.proofs.LineForms.{lines_exact}
 use Rattle.aiger.specs.Beside.{as_words}
+use Rattle.aiger.proofs.Texts.{text_ends}
 use Rattle.aiger.proofs.Steps.{sections_read, reading_from}
 
 -- lines of one kind, each of which is read as its item
@@ -146,7 +147,6 @@ reads_back lent t net b w l =
     let F : List ℕ = flat_map (flop_text net bare) (range_with_len 0 net.counts.flops) in
     let O : List ℕ = flat_map (output_text net) (range_with_len 0 net.counts.outputs) in
     let G : List ℕ = flat_map (gate_text net) (range_with_len 0 net.counts.gates) in
-    let e : text net bare ++ later ≡ header_text net.counts ++ (I ++ (F ++ (O ++ (G ++ later)))) = simp append_assoc in
     reading_from lent t (I ++ (F ++ (O ++ (G ++ later)))) later net.counts net
-    (sym (ap (as_words (λ h. h.counts)) (ap (header_line lent) (w.1.1 ∙ e) ∙ header_back net b lent l (I ++ (F ++ (O ++ (G ++ later)))))))
+    (sym (ap (as_words (λ h. h.counts)) (ap (header_line lent) (w.1.1 ∙ text_ends net bare later) ∙ header_back net b lent l (I ++ (F ++ (O ++ (G ++ later)))))))
     (sections_back net bare b later)

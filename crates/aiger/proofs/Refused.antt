@@ -1,5 +1,5 @@
 -- Which line brings on which refusal.
-use Rattle.std.proofs.Common.{◌≡◌, ℕ, zero, suc, ◌+◌, ◌<◌, ◌≤◌, true, false, List, [], ◌∷◌, Some, None, Ok, Err, Option, Result, sym, refl, subst, arith}
+use Rattle.std.proofs.Common.{◌≡◌, ℕ, zero, suc, ◌+◌, ◌<◌, ◌≤◌, true, false, List, [], ◌∷◌, Some, None, Ok, Err, Option, Result, refl, subst, arith}
 use Rattle.std.specs.List.{range_with_len}
 use Rattle.std.proofs.lemmas.Bool.{ltb-true, not-false}
 use Rattle.circuits.specs.declared.counts.Counts.{Counts}
@@ -8,16 +8,11 @@ use Rattle.aiger.specs.declared.fault.Refusal.TheVariants.{MalformedHeader, Malf
 use Rattle.aiger.specs.declared.fault.ReadFault.{ReadFault}
 use Rattle.aiger.specs.Lines.{header, single, flop, gate}
 use Rattle.circuits.specs.Net.{BoundedCounts, room}
-use Rattle.aiger.specs.Reading.{judged, refused, onward, each, header_line, input_line, flop_line, output_line, gate_line, net_of, sections, reading}
+use Rattle.aiger.specs.Reading.{judged, refused, onward, each, header_line, input_line, flop_line, output_line, gate_line, sections, reading}
 use Rattle.circuits.specs.Checks.{Check, first_due}
 use Rattle.aiger.specs.Laws.{Placed}
 use Rattle.aiger.proofs.Accepted.{header_accepted}
 use Rattle.aiger.proofs.Checks.{counts_fit_parts}
-use Rattle.aiger.proofs.Numerals.{none_some}
-use Rattle.aiger.proofs.Steps.{never_both}
-
-same_fault : {X : Type 0} (f g : ReadFault) → ◌≡◌ {A = Result X ReadFault} (Err f) (Err g) → f ≡ g
-same_fault f g e = cc
 
 -- what holds of each refusal that a line may bring on holds of the one it does; a check comes to be told where those before it are not due
 abbrev ToldBy : (Refusal → Type 0) → List (Check Refusal) → Type 0
@@ -25,35 +20,35 @@ ToldBy P [] = Unit {0}
 ToldBy P (c ∷ cs) = (c.1 ≡ true → P c.0) × (c.1 ≡ false → ToldBy P cs)
 
 told_first : (P : Refusal → Type 0) (cs : List (Check Refusal)) (r : Refusal) → first_due cs ≡ Some r → ToldBy P cs → P r
-told_first P [] r e h = absurd (none_some None r refl e)
+told_first P [] r e h = absurd (cc)
 told_first P ((s, true) ∷ cs) r e h = let q : s ≡ r = cc in subst P q (h.0 refl)
 told_first P ((s, false) ∷ cs) r e h = told_first P cs r e (h.1 refl)
 
 judged_refused : {X : Type 0} (P : ReadFault → Type 0) (k : ℕ) (m : Refusal) (o : Option (X × List ℕ)) (checks : X → List (Check Refusal)) (f : ReadFault)
     → judged k m o checks ≡ Err f → P (record { refusal = m; line = k })
     → ((x : X) → ToldBy (λ r. P (record { refusal = r; line = k })) (checks x)) → P f
-judged_refused P k m None checks f e h g = subst P (same_fault _ f e) h
+judged_refused P k m None checks f e h g = subst P (cc) h
 judged_refused {X = X} P k m (Some p) checks f e h g = by_due (first_due (checks p.0)) refl e
   where
     by_due : (o : Option Refusal) → first_due (checks p.0) ≡ o
         → ◌≡◌ {A = Result (X × List ℕ) ReadFault} (elim o [ None ↦ Ok p | Some r ↦ refused k r ]) (Err f) → P f
-    by_due None d q = absurd (never_both f p (sym q))
-    by_due (Some r) d q = subst P (same_fault _ f q) (told_first (λ s. P (record { refusal = s; line = k })) (checks p.0) r d (g p.0))
+    by_due None d q = absurd (cc)
+    by_due (Some r) d q = subst P (cc) (told_first (λ s. P (record { refusal = s; line = k })) (checks p.0) r d (g p.0))
 
 onward_refused : {X Y : Type 0} (P : ReadFault → Type 0) (r : Result (X × List ℕ) ReadFault) (go : X → List ℕ → Result Y ReadFault) (f : ReadFault)
     → onward r go ≡ Err f → ((g : ReadFault) → r ≡ Err g → P g) → ((x : X) (u : List ℕ) → r ≡ Ok (x, u) → go x u ≡ Err f → P f) → P f
-onward_refused P (Err g) go f e h k = subst P (same_fault g f e) (h g refl)
+onward_refused P (Err g) go f e h k = subst P (cc) (h g refl)
 onward_refused P (Ok p) go f e h k = k p.0 p.1 refl e
 
 each_refused : {X : Type 0} (P : ReadFault → Type 0) (line : ℕ → List ℕ → Result (X × List ℕ) ReadFault) (a n : ℕ)
     → ((i : ℕ) → a ≤ i → i < a + n → (u : List ℕ) (g : ReadFault) → line i u ≡ Err g → P g)
     → (t : List ℕ) (f : ReadFault) → each line (range_with_len a n) t ≡ Err f → P f
-each_refused {X = X} P line a zero h t f e = absurd (never_both {X = List X × List ℕ} f ([], t) (sym e))
+each_refused {X = X} P line a zero h t f e = absurd (cc)
 each_refused P line a (suc n) h t f e =
     onward_refused P (line a t) _ f e (λ g q. h a (omega arith) (omega arith) t g q)
     (λ x u _ q. onward_refused P (each line (range_with_len (a + 1) n) u) _ f q
     (λ g s. each_refused P line (a + 1) n (λ i l m. h i (omega arith) (omega arith)) u g s)
-    (λ xs v _ s. absurd (never_both f (x ∷ xs, v) (sym s))))
+    (λ xs v _ s. absurd (cc)))
 
 header_placed : (lent : ℕ) (t : List ℕ) (f : ReadFault) → header_line lent t ≡ Err f → Placed lent f
 header_placed lent t f e =
@@ -100,11 +95,11 @@ sections_placed lent c b t f e =
     (each_refused (Placed lent) (output_line c) 0 c.outputs (λ j l m. output_placed lent c b j (omega arith)) v)
     (λ os w _ e₃. onward_refused (Placed lent) (each (gate_line c) (range_with_len 0 c.gates) w) _ f e₃
     (each_refused (Placed lent) (gate_line c) 0 c.gates (λ i l m. gate_placed lent c b i (omega arith)) w)
-    (λ gs x _ e₄. absurd (never_both f (net_of c fs os gs, x) (sym e₄))))))
+    (λ gs x _ e₄. absurd (cc)))))
 
 pub placed : (lent : ℕ) (t : List ℕ) (f : ReadFault) → reading lent t ≡ Err f → Placed lent f
 placed lent t f e =
     onward_refused (Placed lent) (header_line lent t) _ f e (header_placed lent t)
     (λ h u s q. onward_refused (Placed lent) (sections h.counts u) _ f q
     (sections_placed lent h.counts (header_accepted lent t u h s).0 u)
-    (λ net v _ z. absurd (never_both f net (sym z))))
+    (λ net v _ z. absurd (cc)))

@@ -1,5 +1,5 @@
 -- The lines of one kind, read by a loop: one line on, stopped by a refusal, and at the end; and the words that they make.
-use Rattle.std.proofs.Common.{◌≡◌, ℕ, zero, suc, ◌+◌, ◌-◌, ◌*◌, ◌<◌, ◌≤◌, List, [], ◌∷◌, ◌++◌, length, take, drop, set, Ok, Err, Result, sym, refl, ap, ◌∙◌, append_assoc, arith}
+use Rattle.std.proofs.Common.{◌≡◌, ℕ, zero, suc, ◌+◌, ◌-◌, ◌*◌, ◌<◌, List, [], ◌∷◌, ◌++◌, length, take, drop, set, Ok, Err, Result, sym, refl, ap, ◌∙◌, append_assoc, arith}
 use Rattle.std.specs.List.{range_with_len}
 use Rattle.std.proofs.lemmas.List.{append-nil, take_more_set, take_all, take-set-le, drop-set-add, drop-set-lt, length-set, length-drop, take-append-drop}
 use Rattle.std.proofs.lemmas.List.FromFn.{length-range_with_len}
@@ -72,13 +72,6 @@ module _ {X : Type 0} (line : ℕ → List ℕ → Result (X × List ℕ) ReadFa
       ap (λ q. each_written (k + 1) (n - (k + 1)) q u) p
       ∙ ap (λ r. onward r (λ y v. each_written (k + 1) (n - (k + 1)) (write k y ws) v)) e ∙ sym (next n k ws t h)
 
-  pub each_stops : (n k : ℕ) (ws t : List ℕ) (f : ReadFault) → k < n → Err f ≡ line k t → Err f ≡ each_written k (n - k) ws t
-  each_stops n k ws t f h e =
-      ap (λ r. onward r (λ y v. each_written (k + 1) (n - (k + 1)) (write k y ws) v)) e ∙ sym (next n k ws t h)
-
-  pub each_all : (n k : ℕ) (ws t : List ℕ) → n ≤ k → Ok (ws, t) ≡ each_written k (n - k) ws t
-  each_all n k ws t h = let z : n - k ≡ 0 = omega arith in sym (ap (λ m. each_written k m ws t) z)
-
 -- The words of each kind.
 inputs_from : (i : ℕ) (xs ws : List ℕ) → writes (λ _ _ ws. ws) i xs ws ≡ ws
 inputs_from i [] ws = refl
@@ -148,3 +141,5 @@ flops_from n j (f ∷ fs) ws e l =
 pub flops_words : WritesWords {X = FlopLine} (λ count j flop words. set (set words j flop.next) (count + j) (pin flop.third)) (λ count. 2 * count)
     (λ flops. nexts_of flops ++ pins_of flops)
 flops_words n xs ws a b = flops_from n 0 xs ws (omega arith) b
+
+pub ruleset section_words = (inputs_words, flops_words, outputs_words, gates_words)

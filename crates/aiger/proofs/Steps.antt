@@ -1,5 +1,5 @@
 -- An accepted reading comes from accepted parts.
-use Rattle.std.proofs.Common.{◌≡◌, ℕ, ◌≤◌, List, [], ◌++◌, length, take, drop, replicate, Ok, Err, OnOk, Result, sym, refl, ap, ◌∙◌, arith}
+use Rattle.std.proofs.Common.{◌≡◌, ℕ, ◌≤◌, List, [], ◌++◌, length, take, drop, replicate, Ok, Err, OnOk, Result, sym, refl, ap, ◌∙◌}
 use Rattle.std.specs.List.{range_with_len}
 use Rattle.aiger.specs.declared.fault.ReadFault.{ReadFault}
 use Rattle.circuits.specs.declared.counts.Counts.{Counts}
@@ -10,16 +10,14 @@ use Rattle.circuits.specs.Net.{Net, layout, operand_words, room}
 use Rattle.aiger.specs.Reading.{each, onward, input_line, flop_line, output_line, gate_line, header_line, nexts_of, pins_of, operands_of, net_of, sections, reading, answered, words_after}
 use Rattle.std.proofs.lemmas.List.{append_assoc, take-append-drop, length-take-le}
 
-pub never_both : {X F : Type 0} (f : F) (x : X) → ◌≡◌ {A = Result X F} (Err f) (Ok x) → ⊥
-never_both f x e = let z : ◌≡◌ {A = ℕ} 0 1 = cc in omega arith
-
-pub same_ok : {X F : Type 0} (x y : X) → ◌≡◌ {A = Result X F} (Ok x) (Ok y) → x ≡ y
-same_ok x y e = cc
-
 pub onward_parts : {X Y : Type 0} (r : Result (X × List ℕ) ReadFault) (go : X → List ℕ → Result Y ReadFault) (y : Y)
     → onward r go ≡ Ok y → (p : X × List ℕ) × ((r ≡ Ok p) × (go p.0 p.1 ≡ Ok y))
-onward_parts (Err f) go y e = absurd (never_both f y e)
+onward_parts (Err f) go y e = absurd (cc)
 onward_parts (Ok p) go y e = (p, (refl, e))
+
+pub net_kept : (r : Result (Net × List ℕ) ReadFault) (net : Net) → onward r (λ m _. Ok m) ≡ Ok net → (u : List ℕ) × (r ≡ Ok (net, u))
+net_kept (Err f) net e = absurd (cc)
+net_kept (Ok p) net e = let q : p.0 ≡ net = cc in (p.1, ap (λ (m : Net). Ok (m, p.1)) q)
 
 -- the four sections that an accepted circuit was read from
 pub record Parts (c : Counts) (t : List ℕ) (net : Net) (rest : List ℕ) : Type 0 where
@@ -42,7 +40,7 @@ sections_parts c t net rest e =
     let b = onward_parts (each (flop_line c) (range_with_len 0 c.flops) a.0.1) _ (net, rest) a.1.1 in
     let d = onward_parts (each (output_line c) (range_with_len 0 c.outputs) b.0.1) _ (net, rest) b.1.1 in
     let g = onward_parts (each (gate_line c) (range_with_len 0 c.gates) d.0.1) _ (net, rest) d.1.1 in
-    let q : ◌≡◌ {A = Net × List ℕ} (net_of c b.0.0 d.0.0 g.0.0, g.0.1) (net, rest) = same_ok _ _ g.1.1 in
+    let q : ◌≡◌ {A = Net × List ℕ} (net_of c b.0.0 d.0.0 g.0.0, g.0.1) (net, rest) = cc in
     let n : net ≡ net_of c b.0.0 d.0.0 g.0.0 = sym (ap (λ (x : Net × List ℕ). x.0) q) in
     let l : g.0.1 ≡ rest = ap (λ (x : Net × List ℕ). x.1) q in
     record {
@@ -62,15 +60,15 @@ sections_parts c t net rest e =
 
 words_ok : {X S : Type 0} (f : X → S) (r : Result (X × List ℕ) ReadFault) (s : S) (u : List ℕ)
     → Ok (s, u) ≡ as_words f r → (x : X) × ((r ≡ Ok (x, u)) × (f x ≡ s))
-words_ok f (Err e) s u h = absurd (never_both e (s, u) (sym h))
+words_ok f (Err e) s u h = absurd (cc)
 words_ok {X = X} {S = S} f (Ok p) s u h =
-    let q : ◌≡◌ {A = S × List ℕ} (f p.0, p.1) (s, u) = same_ok _ _ (sym h) in
+    let q : ◌≡◌ {A = S × List ℕ} (f p.0, p.1) (s, u) = cc in
     let l : p.1 ≡ u = ap (λ (x : S × List ℕ). x.1) q in
     (p.0, (ap (λ (v : List ℕ). Ok (p.0, v)) l, ap (λ (x : S × List ℕ). x.0) q))
 
 words_err : {X S : Type 0} (f : X → S) (r : Result (X × List ℕ) ReadFault) (e : ReadFault) → Err e ≡ as_words f r → r ≡ Err e
 words_err f (Err d) e h = cc
-words_err f (Ok p) e h = absurd (never_both e (f p.0, p.1) h)
+words_err f (Ok p) e h = absurd (cc)
 
 -- the sections one after the other
 pub sections_read : (c : Counts) (t t₁ t₂ t₃ t₄ is os : List ℕ) (fs : List FlopLine) (gs : List GateLine)

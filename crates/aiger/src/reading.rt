@@ -40,6 +40,7 @@ fn header_line(lines: &mut Lines, lent: usize) -> Result<Sizes, ReadFault>
 }
 
 // Reads what follows line 1, and writes the circuit's words to the front of `words`.
+#[tactic(auto, using(crate::proofs::Sections::section_words))]
 fn sections(lines: &mut Lines, sizes: Sizes, words: &mut [u32]) -> Result<(), ReadFault>
     requires { room sizes.counts ≤ length words.old }
     ensures front { holding (take (room sizes.counts) words.new) lines.new.rest.now result
@@ -47,15 +48,10 @@ fn sections(lines: &mut Lines, sizes: Sizes, words: &mut [u32]) -> Result<(), Re
     ensures later { OnOk result
         (drop (room sizes.counts) words.new ≡ drop (room sizes.counts) words.old) }
 {
-    let Counts {
-        flops,
-        gates,
-        outputs,
-        ..
-    } = sizes.counts;
-    let (gate_words, rest) = words.split_at_mut(2 * gates as usize);
-    let (flop_words, rest) = rest.split_at_mut(2 * flops as usize);
-    let (output_words, _) = rest.split_at_mut(outputs as usize);
+    let counts = sizes.counts;
+    let (gate_words, rest) = words.split_at_mut(2 * counts.gates as usize);
+    let (flop_words, rest) = rest.split_at_mut(2 * counts.flops as usize);
+    let (output_words, _) = rest.split_at_mut(counts.outputs as usize);
     read_section::<Inputs>(lines, sizes, &mut [])?;
     read_section::<Flops>(lines, sizes, flop_words)?;
     read_section::<Outputs>(lines, sizes, output_words)?;

@@ -46,6 +46,7 @@ pub(crate) trait Section {
 
 // Reads the lines of a section, and writes their words. That the writes make exactly those words is asked of the caller: as
 // a law of the trait it would have to be proved in specs/.
+#[tactic(auto, using(crate::proofs::Sections::each_more))]
 pub(crate) fn read_section<S: Section>(
     lines: &mut Lines,
     sizes: Sizes,

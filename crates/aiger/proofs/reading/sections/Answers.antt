@@ -1,20 +1,7 @@
 use Rattle.std.proofs.Common.{◌*◌, ◌∙◌, arith}
 use Rattle.aiger.proofs.Places.{parts_front, parts_later, drop_thrice}
-use Rattle.aiger.proofs.Sections.{inputs_words, flops_words, outputs_words, gates_words}
 use Rattle.aiger.proofs.Steps.{sections_end, on_ok}
 use Rattle.aiger.proofs.reading.sections.Goals as goal
-
-pub read_section-requires-clause-writes_words : goal.read_section-requires-clause-writes_words
-read_section-requires-clause-writes_words c = inputs_words
-
-pub read_section-requires-2-clause-writes_words : goal.read_section-requires-2-clause-writes_words
-read_section-requires-2-clause-writes_words c = flops_words
-
-pub read_section-requires-3-clause-writes_words : goal.read_section-requires-3-clause-writes_words
-read_section-requires-3-clause-writes_words c = outputs_words
-
-pub read_section-requires-4-clause-writes_words : goal.read_section-requires-4-clause-writes_words
-read_section-requires-4-clause-writes_words c = gates_words
 
 pub returns-clause-front : goal.returns-clause-front
 returns-clause-front c =

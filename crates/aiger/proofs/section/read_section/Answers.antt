@@ -1,5 +1,5 @@
-use Rattle.std.proofs.Common.{sym, ap, ◌∙◌, arith}
-use Rattle.aiger.proofs.Sections.{each_starts, each_more}
+use Rattle.std.proofs.Common.{sym, ap, ◌∙◌}
+use Rattle.aiger.proofs.Sections.{each_starts}
 use Rattle.aiger.proofs.section.read_section.Goals as goal
 
 pub loop-i-init : goal.loop-i-init
@@ -8,9 +8,3 @@ loop-i-init g c =
     let k = c.count-count.result in
     each_starts (s.line_read c.args.sizes.counts) (s.line_written k) s.words_of k c.args.words.now c.args.lines.now.rest.now
     (λ xs l. c.requires.writes_words k xs c.args.words.now l (c.requires.fits ∙ ap s.room_of (sym c.count-count.ensures)))
-
-pub loop-i-preserved : goal.loop-i-preserved
-loop-i-preserved g c =
-    let s = g.S.Section in
-    each_more (s.line_read c.args.sizes.counts) (s.line_written c.count-count.result) c.count-count.result c.loop-i.i _ _ _ _ _ (omega arith)
-    c.in_ok-line.ensures c.write.ensures ∙ c.loop-i.invariant
