@@ -18,7 +18,7 @@ use Rattle.aiger.specs.Laws.{AcceptsWritten}
 use Rattle.aiger.proofs.Checks.{judged_parts, counts_fit_parts, third_back, pin_in}
 use Rattle.aiger.proofs.LineForms.{lines_exact}
 use Rattle.aiger.proofs.Texts.{text_ends}
-use Rattle.aiger.proofs.Steps.{onward_parts, net_kept, Parts, sections_parts}
+use Rattle.aiger.proofs.Steps.{onward_parts, net_kept, Parts, sections_parts, sections_counts}
 
 -- lines of one kind, where an accepted line was written so and is good
 module _ {X : Type 0} (d : X) (read : ℕ → List ℕ → Result (X × List ℕ) ReadFault) (write : X → List ℕ) (Good : ℕ → X → Type 0)
@@ -205,7 +205,7 @@ accepts_written lent t net e =
     let p = sections_parts h.counts u net r s.1 in
     let k = header_accepted lent t u h a.1.0 in
     let q = sections_accepted h.counts u r net k.0 p in
-    let c : h.counts ≡ net.counts = sym (ap (λ (m : Net). m.counts) p.net_is) in
+    let c : h.counts ≡ net.counts = sym (sections_counts h.counts u net r s.1) in
     let whole : t ≡ header_text h.counts ++ (flat_map input_text (range_with_len 0 h.counts.inputs) ++ (flat_map (flop_text net q.1.0) (range_with_len 0 h.counts.flops)
     ++ (flat_map (output_text net) (range_with_len 0 h.counts.outputs) ++ (flat_map (gate_text net) (range_with_len 0 h.counts.gates) ++ r))))
     = k.2 ∙ ap (λ (v : List ℕ). header_text h.counts ++ v) q.1.1 in

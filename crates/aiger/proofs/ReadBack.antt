@@ -1,6 +1,7 @@
 -- Each written form of a bounded circuit is read as that circuit.
 use Rattle.std.proofs.Common.{◌≡◌, ℕ, zero, suc, ◌+◌, ◌^◌, ◌<◌, ◌≤◌, Bool, true, false, List, [], ◌∷◌, ◌++◌, map, length, get_or, Ok, Result, sym, refl, ap, ◌∙◌, append_assoc, arith}
 use Rattle.std.proofs.lemmas.List.FromFn.{fill_by_all}
+use Rattle.std.proofs.lemmas.Simd.{map-map}
 use Rattle.std.proofs.ByRecursion.{All-get_or}
 use Rattle.std.proofs.lemmas.Bool.{eq-eqb, lt-leb, le-ltb}
 use Rattle.std.specs.List.{range_with_len, flat_map, AllByRecursion}
@@ -98,15 +99,6 @@ header_back net b lent l t =
     ))
     (rw (f, e) refl)
 
-map_twice : {X Y Z : Type 0} (f : X → Y) (g : Y → Z) (xs : List X) → map g (map f xs) ≡ map (λ x. g (f x)) xs
-map_twice f g [] = refl
-map_twice f g (x ∷ xs) = ap (λ ys. g (f x) ∷ ys) (map_twice f g xs)
-
-map_same : {X : Type 0} (f g : ℕ → X) (a n : ℕ) → ((i : ℕ) → i < a + n → f i ≡ g i) → map f (range_with_len a n) ≡ map g (range_with_len a n)
-map_same f g a zero h = refl
-map_same f g a (suc n) h =
-    let e = h a (omega arith) in let r = map_same f g (a + 1) n (λ i l. h i (omega arith)) in cc
-
 listed : {X : Type 0} (xs : List X) (n : ℕ) (d : X) → length xs ≡ n → map (λ k. get_or xs k d) (range_with_len 0 n) ≡ xs
 listed xs n d e = sym (fill_by_all (λ k. get_or xs k d) xs n d e (λ k l. refl))
 
@@ -119,13 +111,12 @@ net_back : (net : Net) (bare : ℕ → Bool) → Bounded net
     (map (gate_item net) (range_with_len 0 net.counts.gates)) ≡ net
 net_back net bare b =
     same_net net.counts _ _ _ _ net refl
-    (map_twice (gate_item net) (λ g. (g.left, g.right)) (range_with_len 0 net.counts.gates) ∙ listed net.operands net.counts.gates (0, 0) b.operands_are)
-    (map_twice (flop_item net bare) (λ f. f.next) (range_with_len 0 net.counts.flops) ∙ listed net.nexts net.counts.flops 0 b.nexts_are)
-    (map_twice (flop_item net bare) (λ f. pin f.third) (range_with_len 0 net.counts.flops)
-    ∙ map_same (λ j. pin (third_of (bare j) (flop_literal net.counts j) (pin_at net j))) (pin_at net) 0 net.counts.flops
-    (λ j l. third_pin (bare j) (flop_literal net.counts j) (pin_at net j) (omega arith)
-    (All-get_or (λ p. p ≤ 2) net.pins j 2 (omega (arith, b.pins_are)) b.pins_in))
-    ∙ listed net.pins net.counts.flops 2 b.pins_are)
+    (map-map (λ g. (g.left, g.right)) (gate_item net) (range_with_len 0 net.counts.gates) ∙ listed net.operands net.counts.gates (0, 0) b.operands_are)
+    (map-map (λ f. f.next) (flop_item net bare) (range_with_len 0 net.counts.flops) ∙ listed net.nexts net.counts.flops 0 b.nexts_are)
+    (map-map (λ f. pin f.third) (flop_item net bare) (range_with_len 0 net.counts.flops)
+    ∙ sym (fill_by_all (λ j. pin (third_of (bare j) (flop_literal net.counts j) (pin_at net j))) net.pins net.counts.flops 2 b.pins_are
+    (λ j l. sym (third_pin (bare j) (flop_literal net.counts j) (pin_at net j) (omega arith)
+    (All-get_or (λ p. p ≤ 2) net.pins j 2 (omega (arith, b.pins_are)) b.pins_in)))))
     (listed net.outs net.counts.outputs 0 b.outs_are)
 
 sections_back : (net : Net) (bare : ℕ → Bool) → Bounded net → (t : List ℕ)

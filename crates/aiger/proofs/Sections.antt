@@ -1,7 +1,7 @@
 -- The lines of one kind, read by a loop: one line on, stopped by a refusal, and at the end; and the words that they make.
 use Rattle.std.proofs.Common.{◌≡◌, ℕ, zero, suc, ◌+◌, ◌-◌, ◌*◌, ◌<◌, List, [], ◌∷◌, ◌++◌, length, take, drop, set, Ok, Err, Result, sym, refl, ap, ◌∙◌, append_assoc, arith}
 use Rattle.std.specs.List.{range_with_len}
-use Rattle.std.proofs.lemmas.List.{append-nil, take_more_set, take_all, take-set-le, drop-set-add, drop-set-lt, length-set, length-drop, take-append-drop}
+use Rattle.std.proofs.lemmas.List.{nil_from_length, append-nil, take_more_set, take_all, take-set-le, drop-set-add, drop-set-lt, length-set, length-drop, take-append-drop}
 use Rattle.std.proofs.lemmas.List.FromFn.{length-range_with_len}
 use Rattle.aiger.specs.declared.fault.ReadFault.{ReadFault}
 use Rattle.aiger.specs.declared.lines.FlopLine.{FlopLine}
@@ -78,11 +78,7 @@ inputs_from i [] ws = refl
 inputs_from i (x ∷ xs) ws = inputs_from (i + 1) xs ws
 
 pub inputs_words : WritesWords {X = ℕ} (λ _ _ _ words. words) (λ _. 0) (λ _. [])
-inputs_words n xs ws a b = inputs_from 0 xs ws ∙ none ws b
-  where
-    none : (ws : List ℕ) → length ws ≡ 0 → ws ≡ []
-    none [] e = refl
-    none (w ∷ ws) e = absurd (omega arith)
+inputs_words n xs ws a b = inputs_from 0 xs ws ∙ nil_from_length ws b
 
 outputs_from : (j : ℕ) (xs ws : List ℕ) → j + length xs ≡ length ws → writes (λ j x ws. set ws j x) j xs ws ≡ take j ws ++ xs
 outputs_from j [] ws e = sym (append-nil (take j ws) ∙ take_all j ws (omega arith))

@@ -58,6 +58,9 @@ sections_parts c t net rest e =
       net_is = n;
     }
 
+pub sections_counts : (c : Counts) (t : List ℕ) (net : Net) (rest : List ℕ) → sections c t ≡ Ok (net, rest) → net.counts ≡ c
+sections_counts c t net rest e = ap (λ (m : Net). m.counts) (sections_parts c t net rest e).net_is
+
 words_ok : {X S : Type 0} (f : X → S) (r : Result (X × List ℕ) ReadFault) (s : S) (u : List ℕ)
     → Ok (s, u) ≡ as_words f r → (x : X) × ((r ≡ Ok (x, u)) × (f x ≡ s))
 words_ok f (Err e) s u h = absurd (cc)
@@ -139,8 +142,7 @@ pub accepted_words : (lent : ℕ) (t t₀ t₁ t₂ ws ws' : List ℕ) (c : Coun
 accepted_words lent t t₀ t₁ t₂ ws ws' c z a b d k =
     let s = words_ok layout (sections c t₁) (take (room c) ws') t₂ b in
     let n = s.0 in
-    let p = sections_parts c t₁ n t₂ s.1.0 in
-    let e : n.counts ≡ c = ap (λ (m : Net). m.counts) p.net_is in
+    let e = sections_counts c t₁ n t₂ s.1.0 in
     let r : reading lent t ≡ Ok n
     = reading_from lent t t₁ t₂ c n (a ∙ ap (λ u. as_words (λ h. h.counts) (header_line lent u)) z) s.1.0 in
     let l : length (layout n) ≡ room c = ap length s.1.1 ∙ length-take-le (room c) ws' k in

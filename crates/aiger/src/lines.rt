@@ -42,6 +42,7 @@ impl<'a> Lines<'a> {
     }
 
     // Takes the byte `b`.
+    #[tactic(auto, using(crate::proofs::Fronts::byte_took))]
     fn byte(&mut self, b: u8) -> Option<()>
         ensures took { beside self.new.rest.now result ≡ spec.byte b self.old.rest.now }
         ensures left { result ≡ None → self.new.rest.now ≡ self.old.rest.now }
@@ -56,6 +57,7 @@ impl<'a> Lines<'a> {
     }
 
     // Takes a digit.
+    #[tactic(auto, using(crate::proofs::Fronts::digit_took))]
     fn digit(&mut self) -> Option<u32>
         ensures took { beside self.new.rest.now result ≡ spec.digit self.old.rest.now }
         ensures left { result ≡ None → self.new.rest.now ≡ self.old.rest.now }
