@@ -1,5 +1,5 @@
 -- An accepted reading comes from accepted parts.
-use Rattle.std.proofs.Common.{◌≡◌, ℕ, ◌≤◌, List, [], ◌++◌, length, take, drop, replicate, Ok, Err, OnOk, Result, sym, refl, ap, ◌∙◌}
+use Rattle.std.proofs.Common.{◌≡◌, ℕ, ◌≤◌, List, [], ◌++◌, length, take, drop, Ok, Err, OnOk, Result, sym, refl, ap, ◌∙◌}
 use Rattle.std.specs.List.{range_with_len}
 use Rattle.aiger.specs.declared.fault.ReadFault.{ReadFault}
 use Rattle.circuits.specs.declared.counts.Counts.{Counts}
@@ -7,7 +7,7 @@ use Rattle.aiger.specs.declared.lines.FlopLine.{FlopLine}
 use Rattle.aiger.specs.declared.lines.GateLine.{GateLine}
 use Rattle.aiger.specs.Beside.{as_words, holding}
 use Rattle.circuits.specs.Net.{Net, layout, operand_words, room}
-use Rattle.aiger.specs.Reading.{each, onward, input_line, flop_line, output_line, gate_line, header_line, nexts_of, pins_of, operands_of, net_of, sections, reading, answered, words_after}
+use Rattle.aiger.specs.Reading.{each, onward, input_line, flop_line, output_line, gate_line, header_line, nexts_of, pins_of, operands_of, net_of, sections, reading, words_after}
 use Rattle.std.proofs.lemmas.List.{append_assoc, take-append-drop, length-take-le}
 
 pub onward_parts : {X Y : Type 0} (r : Result (X × List ℕ) ReadFault) (go : X → List ℕ → Result Y ReadFault) (y : Y)
@@ -138,36 +138,14 @@ pub accepted_words : (lent : ℕ) (t t₀ t₁ t₂ ws ws' : List ℕ) (c : Coun
     → Ok (take (room c) ws', t₂) ≡ as_words layout (sections c t₁)
     → drop (room c) ws' ≡ drop (room c) ws
     → room c ≤ length ws'
-    → (Ok c ≡ answered (reading lent t)) × (ws' ≡ words_after (reading lent t) ws)
+    → ws' ≡ words_after (reading lent t) ws
 accepted_words lent t t₀ t₁ t₂ ws ws' c z a b d k =
     let s = words_ok layout (sections c t₁) (take (room c) ws') t₂ b in
     let n = s.0 in
-    let e = sections_counts c t₁ n t₂ s.1.0 in
     let r : reading lent t ≡ Ok n
     = reading_from lent t t₁ t₂ c n (a ∙ ap (λ u. as_words (λ h. h.counts) (header_line lent u)) z) s.1.0 in
     let l : length (layout n) ≡ room c = ap length s.1.1 ∙ length-take-le (room c) ws' k in
     let w : ws' ≡ layout n ++ drop (length (layout n)) ws
     = sym (take-append-drop (room c) ws') ∙ ap (λ (y : List ℕ). y ++ drop (room c) ws') (sym s.1.1)
     ∙ ap (λ (y : List ℕ). layout n ++ y) d ∙ ap (λ m. layout n ++ drop m ws) (sym l) in
-    (ap (λ (x : Counts). Ok x) (sym e) ∙ sym (ap answered r), w ∙ sym (ap (λ q. words_after q ws) r))
-
--- a refused one, by line 1 or a later line: zeros
-abbrev pub Refused : ReadFault → Result Net ReadFault → List ℕ → Type 0
-Refused f q ws = (Err f ≡ answered q) × (replicate (length ws) 0 ≡ words_after q ws)
-
-refused_from : (f : ReadFault) (q : Result Net ReadFault) (ws : List ℕ) → q ≡ Err f → Refused f q ws
-refused_from f q ws e = (sym (ap answered e), sym (ap (λ r. words_after r ws) e))
-
-pub header_refused : (lent : ℕ) (t t₀ ws : List ℕ) (f : ReadFault) → t₀ ≡ t → Err f ≡ as_words (λ h. h.counts) (header_line lent t₀)
-    → Refused f (reading lent t) ws
-header_refused lent t t₀ ws f z a =
-    let b : header_line lent t ≡ Err f = ap (header_line lent) (sym z) ∙ words_err (λ h. h.counts) (header_line lent t₀) f a in
-    refused_from f (reading lent t) ws (rw b refl)
-
-pub later_refused : (lent : ℕ) (t t₀ t₁ ws : List ℕ) (c : Counts) (f : ReadFault) → t₀ ≡ t
-    → Ok (c, t₁) ≡ as_words (λ h. h.counts) (header_line lent t₀)
-    → Err f ≡ as_words layout (sections c t₁) → Refused f (reading lent t) ws
-later_refused lent t t₀ t₁ ws c f z a b =
-    refused_from f (reading lent t) ws
-    (reading_on lent t t₁ c (a ∙ ap (λ u. as_words (λ h. h.counts) (header_line lent u)) z)
-    ∙ ap (λ q. onward q (λ net _. Ok net)) (words_err layout (sections c t₁) f b))
+    w ∙ sym (ap (λ q. words_after q ws) r)

@@ -44,8 +44,8 @@ pub(crate) trait Section {
         ensures { words.new ≡ line_written count i line words.old };
 }
 
-// Reads the lines of a section, and writes their words. That the writes make exactly those words is asked of the caller: as
-// a law of the trait it would have to be proved in specs/.
+// Reads the lines of a section, and writes their words. A law of the trait could say that the writes make exactly those
+// words, but its proof would have to stand in specs/, so the caller shows it.
 #[tactic(auto, using(crate::proofs::Sections::each_more))]
 pub(crate) fn read_section<S: Section>(
     lines: &mut Lines,
