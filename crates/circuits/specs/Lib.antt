@@ -6,3 +6,4 @@ pub mod Renumbered
 pub mod Padded
 pub mod Matched
 pub mod Pins
+pub mod Sides

@@ -6,3 +6,4 @@ pub mod counts;
 pub mod dummy;
 pub mod numbered;
 pub mod pin;
+pub mod side;
