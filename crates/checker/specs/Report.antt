@@ -2,13 +2,13 @@
 use Rattle.std.specs.Prelude.{◌≡◌, ℕ, Bool, true, false, cond, ◌||◌, List, ◌++◌, length, Ok, Err, codes, decimal, Result, ◌≢◌, nat_lt}
 use Rattle.aiger.specs.declared.fault.Refusal.TheVariants.{FewWords}
 use Rattle.aiger.specs.declared.fault.ReadFault.{ReadFault}
+use Rattle.circuits.specs.declared.side.Side.TheVariants.{Original, Gated}
+use Rattle.circuits.specs.Sides.{letter}
 use Rattle.circuits.specs.Net.{most_words}
 use Rattle.aiger.specs.Reading.{reading}
 use Rattle.aiger.specs.Refusals.{number}
 use Rattle.checker.specs.Summary.{summed, told}
 use Rattle.checker.specs.declared.summary.Summary.{Summary}
-use Rattle.checker.specs.declared.report.Netlist.{Netlist}
-use Rattle.checker.specs.declared.report.Netlist.TheVariants.{Original, Gated}
 use Rattle.checker.specs.declared.report.Report.{Report}
 use Rattle.checker.specs.declared.report.Report.TheVariants.{TooLong, Refused, Read}
 
@@ -39,11 +39,6 @@ abbrev pub both_read : Report → Bool
 both_read TooLong = false
 both_read (Refused n f) = false
 both_read (Read a b) = true
-
--- a is the original netlist, b the gated one
-abbrev pub letter : Netlist → List ℕ
-letter Original = codes "a"
-letter Gated = codes "b"
 
 abbrev pub line : Report → List ℕ
 line TooLong = codes "too long"

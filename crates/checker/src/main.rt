@@ -6,7 +6,7 @@ mod report;
 mod summary;
 
 use folder::{folder_named, read_file};
-use report::Report;
+use report::{Report, Texts};
 use std::path::Path;
 use std::process::ExitCode;
 
@@ -15,7 +15,11 @@ fn run(rt: &HostRuntime) -> anyhow::Result<Report> {
     let folder = Path::new(name.as_str());
     let original = read_file(rt, folder, "orig.aag")?;
     let gated = read_file(rt, folder, "gated.aag")?;
-    let report = Report::of(rt.alloc(), original.as_slice(), gated.as_slice())?;
+    let texts = Texts {
+        original: original.as_slice(),
+        gated: gated.as_slice(),
+    };
+    let report = Report::of(rt.alloc(), texts)?;
     rt.println(report)?;
     Ok(report)
 }

@@ -6,33 +6,36 @@ ghost use Rattle.checker.specs.Report as spec;
 ghost use Rattle.checker.specs.Summary.{summed};
 
 use crate::summary::Summary;
-use netlists::{MOST_WORDS, ReadFault};
+use netlists::{MOST_WORDS, Numbered, ReadFault, Side};
 use std::alloc::{AllocError, Global};
 use std::fmt;
 
 // The most bytes that a file may have.
 pub const MOST_BYTES: usize = 65_536;
 
-#[derive(Clone, Copy)]
-pub enum Netlist {
-    Original,
-    Gated,
-}
-
-#[derive(Clone, Copy)]
+#[derive(Clone, Copy, Debug, PartialEq, Eq)]
 pub enum Report {
     // a file has more than MOST_BYTES bytes
     TooLong,
     // a netlist's text is refused
-    Refused(Netlist, ReadFault),
+    Refused(Side, ReadFault),
     // both netlists are read; what is told of the original, and of the gated one
     Read(Summary, Summary),
 }
 
-fn too_long(original: &[u8], gated: &[u8]) -> bool
-    ensures { result ≡ spec.too_long original.now gated.now }
-{
-    original.len() > MOST_BYTES || gated.len() > MOST_BYTES
+// The texts of the two netlists.
+#[derive(Clone, Copy)]
+pub struct Texts<'t> {
+    pub original: &'t [u8],
+    pub gated: &'t [u8],
+}
+
+impl<'t> Texts<'t> {
+    fn too_long(self) -> bool
+        ensures { result ≡ spec.too_long self.entry.original.now self.entry.gated.now }
+    {
+        self.original.len() > MOST_BYTES || self.gated.len() > MOST_BYTES
+    }
 }
 
 // Words enough for every netlist.
@@ -43,64 +46,42 @@ fn netlist_words(heap: Global) -> Result<Vec<u32>, AllocError>
     vec![in heap; 0; MOST_WORDS]
 }
 
+// What is told of a netlist, read into words of its own, or why it is refused.
+fn summary_of(heap: Global, text: &[u8]) -> Result<Result<Summary, ReadFault>, AllocError>
+    ensures { IfOk result (λ told. told ≡ summed (reading most_words text.now)) }
+{
+    let mut words = netlist_words(heap)?;
+    Ok(Summary::of_text(text, &mut words))
+}
+
 impl Report {
     // What is told of two readings, of the original first.
     fn of_answers(original: Result<Summary, ReadFault>, gated: Result<Summary, ReadFault>) -> Report
         ensures { result ≡ spec.of_answers original gated }
     {
         match (original, gated) {
-            (Err(fault), _) => Report::Refused(Netlist::Original, fault),
-            (Ok(_), Err(fault)) => Report::Refused(Netlist::Gated, fault),
+            (Err(fault), _) => Report::Refused(Side::Original, fault),
+            (Ok(_), Err(fault)) => Report::Refused(Side::Gated, fault),
             (Ok(a), Ok(b)) => Report::Read(a, b),
         }
     }
 
-    // Reads the two netlists, each into its lent words.
-    fn of_texts(
-        original: &[u8],
-        gated: &[u8],
-        original_words: &mut [u32],
-        gated_words: &mut [u32],
-    ) -> Report
-        ensures report { result ≡ spec.of_answers (summed (reading (length original_words.old) original.now)) (summed (reading (length gated_words.old) gated.now)) }
-        ensures original_after { original_words.new ≡ words_after (reading (length original_words.old) original.now) original_words.old }
-        ensures gated_after { gated_words.new ≡ words_after (reading (length gated_words.old) gated.now) gated_words.old }
-    {
-        let a = Summary::of_text(original, original_words);
-        let b = Summary::of_text(gated, gated_words);
-        Report::of_answers(a, b)
-    }
-
     // Reads the two netlists of a folder.
-    pub fn of(heap: Global, original: &[u8], gated: &[u8]) -> Result<Report, AllocError>
-        ensures { IfOk result (λ x. x ≡ spec.report original.now gated.now) }
+    pub fn of(heap: Global, texts: Texts) -> Result<Report, AllocError>
+        ensures { IfOk result (λ x. x ≡ spec.report texts.entry.original.now texts.entry.gated.now) }
     {
-        if too_long(original, gated) {
+        if texts.too_long() {
             return Ok(Report::TooLong);
         }
-        let mut original_words = netlist_words(heap)?;
-        let mut gated_words = netlist_words(heap)?;
-        Ok(Report::of_texts(original, gated, &mut original_words, &mut gated_words))
+        let original = summary_of(heap, texts.original)?;
+        let gated = summary_of(heap, texts.gated)?;
+        Ok(Report::of_answers(original, gated))
     }
 
     pub fn both_read(&self) -> bool
         ensures { result ≡ spec.both_read self.now }
     {
-        match self {
-            Report::Read(_, _) => true,
-            _ => false,
-        }
-    }
-}
-
-impl fmt::Display for Netlist {
-    ghost output = { λ n. Some (spec.letter n) };
-
-    fn fmt<W: fmt::Write>(&self, f: &mut fmt::Formatter<W>) -> fmt::Result {
-        match self {
-            Netlist::Original => write!(f, "a"),
-            Netlist::Gated => write!(f, "b"),
-        }
+        matches!(self, Report::Read(_, _))
     }
 }
 
@@ -110,10 +91,10 @@ impl fmt::Display for Report {
     fn fmt<W: fmt::Write>(&self, f: &mut fmt::Formatter<W>) -> fmt::Result {
         match *self {
             Report::TooLong => write!(f, "too long"),
-            Report::Refused(netlist, fault) => {
+            Report::Refused(side, fault) => {
                 let number = fault.refusal.number();
                 let line = fault.line;
-                write!(f, "refused {number} netlist {netlist} line {line}")
+                write!(f, "refused {number} netlist {side} line {line}")
             }
             Report::Read(a, b) => write!(f, "read netlist a with {a} and netlist b with {b}"),
         }

@@ -1,13 +1,15 @@
 // What is told of a circuit of any kind.
-ghost use Rattle.std.specs.Prelude.{◌≡◌, length, Some};
+ghost use Rattle.std.specs.Prelude.{◌≡◌, length, Some, nat_eq};
 ghost use Rattle.aiger.specs.Reading.{reading, words_after};
+ghost use Rattle.circuits.specs.Net.{pin_at};
+ghost use Rattle.circuits.specs.Pins.{pin_word};
 ghost use Rattle.checker.specs.Summary as spec;
 
-use netlists::{Circuit, Counts, Plain, ReadFault, read};
+use netlists::{Circuit, Counts, Pin, Plain, ReadFault, read};
 use std::fmt;
 
 // The counts of a circuit, and how many of its flops have pin 0, pin 1 and none.
-#[derive(Clone, Copy)]
+#[derive(Clone, Copy, Debug, PartialEq, Eq)]
 pub struct Summary {
     pub counts: Counts,
     pub zeros: u32,
@@ -15,17 +17,18 @@ pub struct Summary {
     pub free: u32,
 }
 
-// How many flops have this pin.
-fn flops_with<C: Circuit>(circuit: &C, pin: u32) -> u32
-    ensures { result ≡ spec.flops_with pin (C.Circuit.meaning circuit.now) }
+fn has_pin<C: Circuit>(circuit: &C, flop: u32, pin: Pin) -> bool
+    ensures { result ≡ nat_eq (pin_at (C.Circuit.meaning circuit.now) flop) (pin_word pin) }
 {
-    let mut count = 0;
-    for j in 0..circuit.counts().flops {
-        if circuit.pin(j) == pin {
-            count += 1;
-        }
-    }
-    count
+    circuit.pin(flop) == pin
+}
+
+// How many flops have this pin.
+fn flops_with<C: Circuit>(circuit: &C, pin: Pin) -> u32
+    ensures { result ≡ spec.flops_with (pin_word pin) (C.Circuit.meaning circuit.now) }
+{
+    let flops = 0..circuit.counts().flops;
+    flops.filter(|flop| has_pin(circuit, *flop, pin)).count() as u32
 }
 
 impl Summary {
@@ -34,9 +37,9 @@ impl Summary {
     {
         Summary {
             counts: circuit.counts(),
-            zeros: flops_with(circuit, 0),
-            ones: flops_with(circuit, 1),
-            free: flops_with(circuit, 2),
+            zeros: flops_with(circuit, Pin::Zero),
+            ones: flops_with(circuit, Pin::One),
+            free: flops_with(circuit, Pin::Free),
         }
     }
 

@@ -19,20 +19,23 @@ fn parse_dummy(text: &str) -> anyhow::Result<Dummy> {
     })
 }
 
-fn parse_dummies(heap: Global, text: &str) -> anyhow::Result<Vec<Dummy>> {
-    let mut dummies = Vec::new(heap);
-    for word in text.split_whitespace() {
-        dummies.push(parse_dummy(word)?)?;
-    }
-    Ok(dummies)
+fn parse_flop(text: &str) -> anyhow::Result<u32> {
+    Ok(text.parse::<u32>()?)
 }
 
-fn parse_order(heap: Global, text: &str) -> anyhow::Result<Vec<u32>> {
-    let mut order = Vec::new(heap);
+// The words of a text, each taken by `parse`.
+fn parse_words<T: Drop, F: Fn(&str) -> anyhow::Result<T>>(
+    heap: Global,
+    text: &str,
+    parse: F,
+) -> anyhow::Result<Vec<T>>
+    requires { F.IsAlwaysCallable parse }
+{
+    let mut items = Vec::new(heap);
     for word in text.split_whitespace() {
-        order.push(word.parse::<u32>()?)?;
+        items.push(parse(word)?)?;
     }
-    Ok(order)
+    Ok(items)
 }
 
 pub(crate) fn parse_layer(heap: Global, text: &str) -> anyhow::Result<Layer> {
@@ -41,8 +44,8 @@ pub(crate) fn parse_layer(heap: Global, text: &str) -> anyhow::Result<Layer> {
         None => (text, ""),
     };
     match kind {
-        "pad" => Ok(Layer::Pad(parse_dummies(heap, rest)?)),
-        "match" => Ok(Layer::Match(parse_order(heap, rest)?)),
+        "pad" => Ok(Layer::Pad(parse_words(heap, rest, parse_dummy)?)),
+        "match" => Ok(Layer::Match(parse_words(heap, rest, parse_flop)?)),
         _ => Err(anyhow!("a layer that is neither pad nor match")),
     }
 }

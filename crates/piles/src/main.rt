@@ -3,46 +3,14 @@
 #![tactic(auto)]
 
 mod layer;
+mod pile;
 mod told;
 
 use anyhow::anyhow;
-use layer::{Layer, parse_layer};
-use netlists::{Circuit, MOST_WORDS, Matched, Padded, Plain, read};
+use layer::parse_layer;
+use netlists::{MOST_WORDS, Plain, read};
+use pile::{Tell, Under, Visit};
 use std::fs;
-use told::{tell, tell_match_fault, tell_pad_fault};
-
-// Tells of the circuit under one layer.
-fn tell_under<C: Circuit>(rt: &HostRuntime, circuit: &C, layer: &Layer) -> anyhow::Result<()> {
-    match layer {
-        Layer::Pad(dummies) => match Padded::new(circuit, dummies.as_slice()) {
-            Ok(padded) => tell(rt, &padded),
-            Err(fault) => tell_pad_fault(rt, fault),
-        },
-        Layer::Match(order) => match Matched::new(circuit, order.as_slice()) {
-            Ok(matched) => tell(rt, &matched),
-            Err(fault) => tell_match_fault(rt, fault),
-        },
-    }
-}
-
-// Tells of the circuit under two layers.
-fn tell_under_both<C: Circuit>(
-    rt: &HostRuntime,
-    circuit: &C,
-    lower: &Layer,
-    upper: &Layer,
-) -> anyhow::Result<()> {
-    match lower {
-        Layer::Pad(dummies) => match Padded::new(circuit, dummies.as_slice()) {
-            Ok(padded) => tell_under(rt, &padded, upper),
-            Err(fault) => tell_pad_fault(rt, fault),
-        },
-        Layer::Match(order) => match Matched::new(circuit, order.as_slice()) {
-            Ok(matched) => tell_under(rt, &matched, upper),
-            Err(fault) => tell_match_fault(rt, fault),
-        },
-    }
-}
 
 fn run_sample(rt: &HostRuntime, line: &str) -> anyhow::Result<()> {
     let mut parts = line.split(';');
@@ -57,13 +25,14 @@ fn run_sample(rt: &HostRuntime, line: &str) -> anyhow::Result<()> {
     let plain = Plain::new(counts, words.as_slice());
     print!(rt; "{line}: ")?;
     let Some(first) = parts.next() else {
-        return tell(rt, &plain);
+        return Tell.visit(rt, &plain);
     };
     let lower = parse_layer(rt.alloc(), first)?;
-    match parts.next() {
-        None => tell_under(rt, &plain, &lower),
-        Some(second) => tell_under_both(rt, &plain, &lower, &parse_layer(rt.alloc(), second)?),
-    }
+    let Some(second) = parts.next() else {
+        return Under(&lower, Tell).visit(rt, &plain);
+    };
+    let upper = parse_layer(rt.alloc(), second)?;
+    Under(&lower, Under(&upper, Tell)).visit(rt, &plain)
 }
 
 fn run(rt: &HostRuntime) -> anyhow::Result<()> {

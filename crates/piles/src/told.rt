@@ -1,35 +1,44 @@
 // What is printed of a circuit or of a refusal.
-use netlists::{Circuit, MatchFault, PadFault};
+use netlists::{Circuit, Numbered};
+use std::fmt;
 
 // At most so many answers of a kind are printed.
 const PRINTED: u32 = 8;
 
-fn tell_gates<C: Circuit>(rt: &HostRuntime, circuit: &C, count: u32) -> anyhow::Result<()> {
-    print!(rt; ", gates")?;
+// Two numbers that are shown together.
+#[derive(Clone, Copy)]
+struct Pair(u32, u32);
+
+impl fmt::Display for Pair {
+    fn fmt<W: fmt::Write>(&self, f: &mut fmt::Formatter<W>) -> fmt::Result {
+        write!(f, "({} {})", self.0, self.1)
+    }
+}
+
+// The operands of gate i.
+fn operands<C: Circuit>(circuit: &C, i: u32) -> Pair {
+    let gate = circuit.gate(i);
+    Pair(gate.left, gate.right)
+}
+
+// The next literal of flop j, and the word of its pin.
+fn flop<C: Circuit>(circuit: &C, j: u32) -> Pair {
+    Pair(circuit.next(j), circuit.pin(j).into())
+}
+
+// Tells the first of `count` answers of a kind.
+fn tell_first<T: fmt::Display + Drop, F: Fn(u32) -> T>(
+    rt: &HostRuntime,
+    kind: &str,
+    count: u32,
+    answer: F,
+) -> anyhow::Result<()>
+    requires { F.IsAlwaysCallable answer }
+{
+    print!(rt; ", {kind}")?;
     for i in 0..count.min(PRINTED) {
-        let gate = circuit.gate(i);
-        let left = gate.left;
-        let right = gate.right;
-        print!(rt; " ({left} {right})")?;
-    }
-    Ok(())
-}
-
-fn tell_flops<C: Circuit>(rt: &HostRuntime, circuit: &C, count: u32) -> anyhow::Result<()> {
-    print!(rt; ", flops")?;
-    for j in 0..count.min(PRINTED) {
-        let next = circuit.next(j);
-        let pin = circuit.pin(j);
-        print!(rt; " ({next} {pin})")?;
-    }
-    Ok(())
-}
-
-fn tell_outs<C: Circuit>(rt: &HostRuntime, circuit: &C, count: u32) -> anyhow::Result<()> {
-    print!(rt; ", outs")?;
-    for j in 0..count.min(PRINTED) {
-        let out = circuit.out(j);
-        print!(rt; " {out}")?;
+        let told = answer(i);
+        print!(rt; " {told}")?;
     }
     Ok(())
 }
@@ -38,37 +47,21 @@ fn tell_outs<C: Circuit>(rt: &HostRuntime, circuit: &C, count: u32) -> anyhow::R
 pub(crate) fn tell<C: Circuit>(rt: &HostRuntime, circuit: &C) -> anyhow::Result<()> {
     let counts = circuit.counts();
     print!(rt; "{counts}")?;
-    tell_gates(rt, circuit, counts.gates)?;
-    tell_flops(rt, circuit, counts.flops)?;
-    tell_outs(rt, circuit, counts.outputs)?;
-    let gate = circuit.gate(counts.gates);
-    let left = gate.left;
-    let right = gate.right;
-    let next = circuit.next(counts.flops);
-    let pin = circuit.pin(counts.flops);
+    tell_first(rt, "gates", counts.gates, |i| operands(circuit, i))?;
+    tell_first(rt, "flops", counts.flops, |j| flop(circuit, j))?;
+    tell_first(rt, "outs", counts.outputs, |j| circuit.out(j))?;
+    let gate = operands(circuit, counts.gates);
+    let flop = flop(circuit, counts.flops);
     let out = circuit.out(counts.outputs);
-    println!(rt; ", past ({left} {right}) ({next} {pin}) {out}")?;
+    println!(rt; ", past {gate} {flop} {out}")?;
     Ok(())
 }
 
-pub(crate) fn tell_pad_fault(rt: &HostRuntime, fault: PadFault) -> anyhow::Result<()> {
+pub(crate) fn tell_refusal<F: Numbered + fmt::Display>(
+    rt: &HostRuntime,
+    fault: &F,
+) -> anyhow::Result<()> {
     let number = fault.number();
-    print!(rt; "refused {number} ")?;
-    match fault {
-        PadFault::ManyDummies => println!(rt; "dummies")?,
-        PadFault::ManyFlops => println!(rt; "flops")?,
-        PadFault::LargeLiteral(k) => println!(rt; "literal of dummy {k}")?,
-        PadFault::LargePin(k) => println!(rt; "pin of dummy {k}")?,
-    }
-    Ok(())
-}
-
-pub(crate) fn tell_match_fault(rt: &HostRuntime, fault: MatchFault) -> anyhow::Result<()> {
-    let number = fault.number();
-    print!(rt; "refused {number} ")?;
-    match fault {
-        MatchFault::WrongLength => println!(rt; "length")?,
-        MatchFault::Unmatched(flop) => println!(rt; "flop {flop}")?,
-    }
+    println!(rt; "refused {number} {fault}")?;
     Ok(())
 }

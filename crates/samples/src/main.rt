@@ -26,11 +26,7 @@ fn run_sample(rt: &HostRuntime, lent: usize, files: &str) -> anyhow::Result<()> 
     let mut words = vec![in rt.alloc(); BEFORE; lent]?;
     match read(text.as_slice(), &mut words) {
         Ok(counts) => print!(rt; "{files}: accepted {counts}")?,
-        Err(fault) => {
-            let number = fault.refusal.number();
-            let line = fault.line;
-            print!(rt; "{files}: refused {number} line {line}")?
-        }
+        Err(fault) => print!(rt; "{files}: {fault}")?,
     }
     if lent <= PRINTED_WORDS {
         print!(rt; ", words {words:?}")?;
