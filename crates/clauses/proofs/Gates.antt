@@ -6,7 +6,8 @@ use Rattle.clauses.specs.declared.plan.Half.{Half}
 use Rattle.clauses.specs.declared.plan.Half.TheVariants.{Left, Right}
 use Rattle.clauses.specs.declared.plan.Row.{Row}
 use Rattle.clauses.specs.declared.shape.Shape.{Shape}
-use Rattle.clauses.specs.Plans.{other_side, half_row}
+use Rattle.circuits.specs.Sides.{other_side}
+use Rattle.clauses.specs.Plans.{half_row}
 use Rattle.clauses.specs.Shapes.{gates_on, gates_in, gates_in_row, Spots}
 
 -- below a product, the factor is not zero

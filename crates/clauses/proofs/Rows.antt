@@ -11,13 +11,14 @@ use Rattle.comparisons.specs.Places.{net_at, Placed}
 use Rattle.comparisons.proofs.Repeats.{all_row, length_row}
 use Rattle.comparisons.proofs.Sized.{Sized}
 use Rattle.comparisons.proofs.Numbered.{placed}
-use Rattle.clauses.specs.declared.plan.Side.{Side}
-use Rattle.clauses.specs.declared.plan.Side.TheVariants.{Original, Gated}
+use Rattle.circuits.specs.declared.side.Side.{Side}
+use Rattle.circuits.specs.declared.side.Side.TheVariants.{Original, Gated}
 use Rattle.clauses.specs.declared.plan.Half.{Half}
 use Rattle.clauses.specs.declared.plan.Half.TheVariants.{Left, Right}
 use Rattle.clauses.specs.declared.plan.Row.{Row}
 use Rattle.clauses.specs.declared.shape.Shape.{Shape}
-use Rattle.clauses.specs.Plans.{other_side, on, half_row, half_of}
+use Rattle.circuits.specs.Sides.{other_side}
+use Rattle.clauses.specs.Plans.{on, half_row, half_of}
 use Rattle.clauses.specs.Shapes.{AreSizes, gates_on, gates_before}
 use Rattle.clauses.specs.Asked.{Compared, runs}
 use Rattle.clauses.proofs.Gates.{turns}

@@ -8,7 +8,7 @@ use Rattle.clauses.specs.declared.plan.Half.TheVariants.{Left, Right}
 use Rattle.clauses.specs.declared.shape.Spot.{Spot}
 use Rattle.clauses.specs.declared.shape.Shape.{Shape}
 use Rattle.clauses.specs.declared.shape.Place.{Place}
-use Rattle.clauses.specs.declared.shape.Place.TheVariants.{Nowhere, Constant, Gate, Output, Final, Differences, Fixed}
+use Rattle.clauses.specs.declared.shape.Place.TheVariants.{Constant, Gate, Output, Final, Differences, Fixed}
 use Rattle.clauses.specs.Plans.{side_in, on, left_of, half_of}
 use Rattle.clauses.specs.Shapes.{gate_variable, first_difference, output_variable, final_variable, all_differences}
 
@@ -57,7 +57,6 @@ module _ (c : Compared) where
   final_clause_of flop part = difference_clause part (final_variable c.shape flop) (final_of Left flop) (final_of Right flop)
 
   abbrev pub clause_of : Place → List ℕ
-  clause_of Nowhere = []
   clause_of Constant = 3 ∷ []
   clause_of (Gate half spot part) = gate_clause_of half spot part
   clause_of (Output spot part) = output_clause_of spot part
@@ -72,7 +71,6 @@ gate_length (suc zero) = 2
 gate_length (suc (suc part)) = 3
 
 abbrev pub length_of : Shape → Place → ℕ
-length_of s Nowhere = 0
 length_of s Constant = 1
 length_of s (Gate half spot part) = gate_length part
 length_of s (Output spot part) = 3

@@ -1,21 +1,18 @@
 -- Plans: which circuit runs in which cycle of a comparison.
 use Rattle.std.specs.Prelude.{ℕ, ◌+◌, ◌-◌, ◌≤◌, Bool, true, false, if◌then◌else◌, ◌&&◌, List, [], ◌∷◌, nat_le, nat_lt}
 use Rattle.circuits.specs.Net.{Net}
+use Rattle.circuits.specs.Sides.{other_side}
 use Rattle.comparisons.specs.declared.rule.Rule.{Rule}
 use Rattle.comparisons.specs.declared.rule.Rule.TheVariants.{Everywhere, AfterOriginal, FromPins, AfterGated}
 use Rattle.comparisons.specs.Table.{row}
 use Rattle.comparisons.specs.Clauses.{Formula, pin_literals, given_clauses, last_variable}
 use Rattle.comparisons.specs.Opening.{same_sizes}
-use Rattle.clauses.specs.declared.plan.Side.{Side}
-use Rattle.clauses.specs.declared.plan.Side.TheVariants.{Original, Gated}
+use Rattle.circuits.specs.declared.side.Side.{Side}
+use Rattle.circuits.specs.declared.side.Side.TheVariants.{Original, Gated}
 use Rattle.clauses.specs.declared.plan.Half.{Half}
 use Rattle.clauses.specs.declared.plan.Half.TheVariants.{Left, Right}
 use Rattle.clauses.specs.declared.plan.Row.{Row}
 use Rattle.clauses.specs.declared.plan.Plan.{Plan}
-
-abbrev pub other_side : Side → Side
-other_side Original = Gated
-other_side Gated = Original
 
 -- the circuit that runs in cycle t of a row
 abbrev pub side_at : Row → ℕ → Side

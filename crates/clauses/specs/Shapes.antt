@@ -1,15 +1,16 @@
 -- The sizes of a comparison in numbers, as code sees them.
-use Rattle.std.specs.Prelude.{◌≡◌, ℕ, ◌+◌, ◌-◌, ◌*◌, ◌/◌, ◌%◌, ◌<◌, min, if◌then◌else◌, ◌&&◌, ◌⊎◌, List, length, Some, None, Option, ◌==◌, nat_le, nat_lt}
+use Rattle.std.specs.Prelude.{◌≡◌, ℕ, ◌+◌, ◌-◌, ◌*◌, ◌/◌, ◌%◌, ◌<◌, min, if◌then◌else◌, ◌&&◌, ◌⊎◌, List, length, Some, None, Option, MatchOption, ◌==◌, nat_le, nat_lt}
 use Rattle.circuits.specs.declared.counts.Counts.{Counts}
-use Rattle.clauses.specs.declared.plan.Side.{Side}
-use Rattle.clauses.specs.declared.plan.Side.TheVariants.{Original, Gated}
+use Rattle.circuits.specs.declared.side.Side.{Side}
+use Rattle.circuits.specs.declared.side.Side.TheVariants.{Original, Gated}
 use Rattle.clauses.specs.declared.plan.Half.{Half}
 use Rattle.clauses.specs.declared.plan.Half.TheVariants.{Left, Right}
 use Rattle.clauses.specs.declared.shape.Spot.{Spot}
 use Rattle.clauses.specs.declared.shape.Shape.{Shape}
 use Rattle.clauses.specs.declared.shape.Place.{Place}
-use Rattle.clauses.specs.declared.shape.Place.TheVariants.{Nowhere, Constant, Gate, Output, Final, Differences, Fixed}
-use Rattle.clauses.specs.Plans.{other_side, half_row, side_in}
+use Rattle.clauses.specs.declared.shape.Place.TheVariants.{Constant, Gate, Output, Final, Differences, Fixed}
+use Rattle.circuits.specs.Sides.{other_side}
+use Rattle.clauses.specs.Plans.{half_row, side_in}
 
 -- the sizes of circuits of these counts, where these start bits are fixed
 pub record AreSizes (original gated : Counts) (fixed : List ℕ) (s : Shape) : Type 0 where
@@ -97,7 +98,6 @@ module _ (s : Shape) where
 
   -- clause c is about this
   abbrev pub Stands : ℕ → Place → Type 0
-  Stands c Nowhere = (c ≡ 0) ⊎ (all_clauses < c)
   Stands c Constant = c ≡ 1
   Stands c (Gate half spot part) =
       (spot.cycle < s.plan.cycles) × (spot.at < gates_in half spot.cycle) × (part < 3)
@@ -108,3 +108,7 @@ module _ (s : Shape) where
   Stands c (Final flop part) = (flop < s.original.flops) × (part < 2) × (c ≡ 2 + 3 * all_gates + 2 * (all_outputs + flop) + part)
   Stands c Differences = c ≡ 2 + 3 * all_gates + 2 * all_differences
   Stands c (Fixed k) = (k < s.fixed) × (c ≡ 3 + 3 * all_gates + 2 * all_differences + k)
+
+  -- what clause c is about, or none where no clause has this number
+  abbrev pub IsPlaceOf : ℕ → Option Place → Type 0
+  IsPlaceOf c place = MatchOption place ((c ≡ 0) ⊎ (all_clauses < c)) (Stands c)

@@ -7,11 +7,12 @@ ghost use Rattle.clauses.specs.Asked.{runs, OfCycle, names_in, output_of, final_
 
 use crate::fixed::Fixed;
 use crate::literal::{difference_literal, gate_literal, inverted};
-use crate::plan::{Half, Plan, Side};
+use crate::plan::{Half, Plan};
 use crate::running::Running;
 use crate::shape::{Shape, Spot};
 use circuits::circuit::{Circuit, Gate};
 use circuits::counts::Counts;
+use circuits::side::Side;
 use std::marker::Model;
 
 #[derive(Drop)]

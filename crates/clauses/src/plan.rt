@@ -3,13 +3,8 @@ ghost use Rattle.std.specs.Prelude.{◌≡◌, ◌+◌, ◌≤◌};
 ghost use Rattle.std.specs.List.{slice_get};
 ghost use Rattle.clauses.specs.Plans as spec;
 
+use circuits::side::Side;
 use comparisons::rule::Rule;
-
-#[derive(Clone, Copy, Debug, PartialEq, Eq)]
-pub enum Side {
-    Original,
-    Gated,
-}
 
 // The two rows of a comparison.
 #[derive(Clone, Copy, Debug, PartialEq, Eq)]
@@ -32,17 +27,6 @@ pub struct Plan {
     pub right: Row,
     // whether the start has to fit the pins
     pub pinned: bool,
-}
-
-impl Side {
-    pub(crate) fn other(self) -> Side
-        ensures { result ≡ spec.other_side self }
-    {
-        match self {
-            Side::Original => Side::Gated,
-            Side::Gated => Side::Original,
-        }
-    }
 }
 
 impl Row {

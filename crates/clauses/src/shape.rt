@@ -3,8 +3,9 @@ ghost use Rattle.std.specs.Prelude.{◌≡◌, ◌≤◌};
 ghost use Rattle.circuits.specs.Net.{BoundedCounts};
 ghost use Rattle.clauses.specs.Plans.{InTime};
 
-use crate::plan::{Half, Plan, Row, Side};
+use crate::plan::{Half, Plan, Row};
 use circuits::counts::Counts;
+use circuits::side::Side;
 
 // Which cycle, and which of its gates or outputs.
 #[derive(Clone, Copy, Debug, PartialEq, Eq)]
@@ -32,8 +33,6 @@ pub struct Shape {
 // What a clause is about; where a part is given, which of the clauses about it.
 #[derive(Clone, Copy, Debug, PartialEq, Eq)]
 pub enum Place {
-    // no clause has this number
-    Nowhere,
     Constant,
     // a gate in a cycle of a row
     Gate(Half, Spot, u32),
@@ -263,15 +262,16 @@ impl Shape {
         Place::Output(spot, q % 2)
     }
 
-    // What clause c is about.
-    pub(crate) fn place(self, c: u32) -> Place
-        ensures { spec.Stands self c result }
+    // What clause c is about, if there is one.
+    pub(crate) fn place(self, c: u32) -> Option<Place>
+        ensures { spec.IsPlaceOf self c result }
     {
         let gates = 2 + 3 * self.gates();
         let differences = gates + 2 * self.differences();
         if c == 0 || c > differences + self.fixed {
-            Place::Nowhere
-        } else if c == 1 {
+            return None;
+        }
+        Some(if c == 1 {
             Place::Constant
         } else if c < gates {
             self.gate_place(c - 2)
@@ -281,6 +281,6 @@ impl Shape {
             Place::Differences
         } else {
             Place::Fixed(c - differences - 1)
-        }
+        })
     }
 }
