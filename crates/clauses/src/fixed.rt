@@ -1,5 +1,6 @@
 // The start bits that the pins of a circuit fix.
-ghost use Rattle.std.specs.Prelude.{◌≡◌, ℕ, ◌≤◌, List, length, take};
+ghost use Rattle.std.specs.Prelude.{◌≡◌, ℕ, ◌-◌, ◌≤◌, ◌++◌, List, length, take, replicate};
+ghost use Rattle.std.proofs.Common.{ap, ap₂, sym, ◌∙◌};
 
 use circuits::counts::MOST_FLOPS;
 use std::marker::Model;
@@ -7,9 +8,9 @@ use std::marker::Model;
 const FLOPS: usize = MOST_FLOPS as usize;
 
 // The literals of the bits, in order.
-#[derive(Debug, Drop)]
+#[derive(Clone, Copy, Debug, PartialEq, Eq)]
 pub struct Fixed {
-    // those past `count` mean nothing
+    // zeros from `count` on, so that equal bits are equal in memory
     literals: [u32; FLOPS],
     count: usize,
 }
@@ -19,7 +20,13 @@ impl Model for Fixed {
 
     ghost view = { λ f. take f.count f.literals };
 
-    ghost invariant = { λ f. f.count ≤ 256 };
+    ghost invariant = { λ f. (f.count ≤ 256) × (length (take f.count f.literals) ≡ f.count)
+        × (f.literals ≡ take f.count f.literals ++ replicate (256 - f.count) 0) };
+
+    ghost inverse = { λ bits. record { literals = bits ++ replicate (256 - length bits) 0; count = length bits } };
+
+    ghost inverse_ok = { λ f h. ap₂ (λ literals count. record { literals = literals; count = count })
+        (ap (λ n. take f.count f.literals ++ replicate (256 - n) 0) h.1 ∙ sym h.2) h.1 };
 }
 
 impl Fixed {
