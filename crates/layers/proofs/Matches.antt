@@ -14,7 +14,7 @@ use Rattle.layers.specs.declared.fault.MatchFault.{MatchFault}
 use Rattle.layers.specs.declared.fault.MatchFault.TheVariants.{Unmatched}
 use Rattle.layers.specs.Matching.{flop_check, match_checks, MatchesOrders}
 use Rattle.layers.specs.MatchedAnswers.{StandsAt}
-use Rattle.layers.specs.Orders.{Placed, PlacesOf}
+use Rattle.layers.specs.Orders.{KeptPlaces, PlacesOf}
 
 abbrev Passed : List (Check MatchFault) → Type 0
 Passed = AllByRecursion (λ c. c.1 ≡ false)
@@ -26,7 +26,7 @@ pub record PlacedTo (p places : List ℕ) (j : ℕ) : Type 0 where
   pub stands : (k : ℕ) → k < j → get_or p k 0 < 256 → get_or p (get_or places (get_or p k 0) 0) 0 ≡ get_or p k 0
 
 -- One flop: what stands at its place.
-module _ (p places : List ℕ) (placed : Placed p places) (f : ℕ) (few : f < 256) where
+module _ (p places : List ℕ) (placed : KeptPlaces p places) (f : ℕ) (few : f < 256) where
   pub flop_named : 0 < length p → get_or p (get_or places f 0) 0 ≡ f → place p f < length p
   flop_named some e =
       let l = place_le p f (get_or places f 0) 0 (placed.inside f few some) e in omega (arith, placed.inside f few some)
@@ -36,7 +36,7 @@ module _ (p places : List ℕ) (placed : Placed p places) (f : ℕ) (few : f < 2
   named_stands h = let e = at_place p f 0 h in grind (arith, placed.stands (place p f))
 
 -- in an order, the place at which a flop stands is its place
-pub places_of : (p places : List ℕ) → length p ≤ 256 → Placed p places → InSomeOrder (length p) p → PlacesOf p places
+pub places_of : (p places : List ℕ) → length p ≤ 256 → KeptPlaces p places → InSomeOrder (length p) p → PlacesOf p places
 places_of p places few placed o f h =
     let stands = named_stands p places placed f (omega arith) (o.1 f h) in
     sym ((names_flops (length p) p o (get_or places f 0) (placed.inside f (omega arith) (omega arith))).1) ∙ ap (place p) stands

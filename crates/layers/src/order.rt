@@ -5,7 +5,7 @@ ghost use Rattle.circuits.specs.Checks.{unless_due};
 ghost use Rattle.circuits.specs.Matched.{place, InSomeOrder};
 ghost use Rattle.layers.specs.Layers.{meant};
 ghost use Rattle.layers.specs.Matching.{flop_check, match_checks, MatchesOrders};
-ghost use Rattle.layers.specs.Orders.{Placed, PlacesOf};
+ghost use Rattle.layers.specs.Orders.{KeptPlaces, PlacesOf};
 
 use crate::fault::MatchFault;
 use circuits::counts::MOST_FLOPS;
@@ -25,7 +25,7 @@ pub(crate) struct Order<'p> {
 // A place for each flop: one that is named stands there.
 fn places_in(flops: &[u32]) -> [u32; FLOPS]
     requires { length flops.now ≤ 256 }
-    ensures { Placed flops.now result }
+    ensures { KeptPlaces flops.now result }
 {
     let mut places = [0; FLOPS];
     for (j, &flop) in flops.iter().enumerate() {
@@ -39,7 +39,7 @@ fn places_in(flops: &[u32]) -> [u32; FLOPS]
 // Judges whether each flop is named: one that is stands at the place that is kept for it.
 fn judge_flops(flops: &[u32], places: &[u32; FLOPS]) -> Result<(), MatchFault>
     requires few { length flops.now ≤ 256 }
-    requires placed { Placed flops.now places.now }
+    requires placed { KeptPlaces flops.now places.now }
     ensures answer { result ≡ unless_due (map (flop_check flops.now) (range_with_len 0 (length flops.now))) tt }
     ensures ordered { OnOk result (InSomeOrder (length flops.now) flops.now) }
     ensures placed { OnOk result (PlacesOf flops.now places.now) }

@@ -14,6 +14,7 @@ pub use circuits::counts::{Counts, MOST_WORDS};
 pub use circuits::dummy::Dummy;
 pub use circuits::numbered::Numbered;
 pub use circuits::pin::{NoPin, Pin};
+pub use circuits::side::Side;
 pub use layers::fault::{MatchFault, PadFault};
 pub use layers::matched::Matched;
 pub use layers::padded::Padded;

@@ -17,6 +17,6 @@ returns g c =
     let flops = c.counts.result.flops in
     let test : ℕ → Bool = λ j. nat_eq (get_or n.pins j 2) (pin_word c.args.pin) in
     let counted : c.count.result ≡ length (filter test (range_with_len 0 flops)) =
-    count_from_yields_List c.filter.result _ c.count.ensures.ran (YieldsList-from_filter _ test (YieldsList-at c.filter.ensures.source (YieldsList-from_range 0 flops flops refl (omega arith)))
+    count_from_yields_List c.filter.result c.count.result c.count.ensures.ran (YieldsList-from_filter _ test (YieldsList-at c.filter.ensures.source (YieldsList-from_range 0 flops flops refl (omega arith)))
     c.filter.ensures.closure (λ x r q k. search (rules, tests))) in
     counted ∙ length-filter test (range_with_len 0 flops) ∙ count_places (λ p. nat_eq p (pin_word c.args.pin)) n.pins flops 2 (omega arith)
