@@ -1,5 +1,5 @@
 // A circuit in lent words.
-ghost use Rattle.std.specs.Prelude.{◌↔◌, ◌≡◌, IsTrue, IsSome, IfSome};
+ghost use Rattle.std.specs.Prelude.{◌↔◌, ◌≡◌, Decides, IsSome, IfSome};
 ghost use Rattle.circuits.specs.Net.{Bounded};
 ghost use Rattle.circuits.specs.Held.{Holds, blank};
 ghost use Rattle.netlists.specs.Plain.{SomeHeld, StandsFor};
@@ -44,7 +44,7 @@ impl<'a> Plain<'a> {
 
     // Whether the words hold a circuit of these counts.
     pub fn holds(counts: Counts, words: &[u32]) -> bool
-        ensures { IsTrue result ↔ SomeHeld counts words.now }
+        ensures { Decides result (SomeHeld counts words.now) }
     {
         Plain::checked(counts, words).is_some()
     }
