@@ -1,10 +1,14 @@
 -- The clauses of a comparison, as code answers them: by what a clause is about.
-use Rattle.std.specs.Prelude.{ℕ, zero, suc, ◌-◌, ◌≤◌, List, [], ◌∷◌, slice_index}
+use Rattle.std.specs.Prelude.{ℕ, ◌-◌, ◌≤◌, List, [], ◌∷◌, slice_index}
 use Rattle.circuits.specs.Net.{Net, top, gate_at, next_at, out_at}
 use Rattle.comparisons.specs.Clauses.{named, vars, start, input, left_gates, right_gates}
 use Rattle.comparisons.specs.Places.{gate_clause, difference_clause, names_at}
 use Rattle.clauses.specs.declared.plan.Half.{Half}
 use Rattle.clauses.specs.declared.plan.Half.TheVariants.{Left, Right}
+use Rattle.clauses.specs.declared.part.GatePart.{GatePart}
+use Rattle.clauses.specs.declared.part.GatePart.TheVariants.{ImpliesLeft, ImpliesRight, Implied}
+use Rattle.clauses.specs.declared.part.DifferencePart.{DifferencePart}
+use Rattle.clauses.specs.Parts.{gate_part, difference_part}
 use Rattle.clauses.specs.declared.shape.Spot.{Spot}
 use Rattle.clauses.specs.declared.shape.Shape.{Shape}
 use Rattle.clauses.specs.declared.shape.Place.{Place}
@@ -45,16 +49,16 @@ module _ (c : Compared) where
   final_of half flop = let last = c.shape.plan.cycles - 1 in named (names_in half last) (next_at (runs half last) flop)
 
   -- the clause that is about this
-  abbrev pub gate_clause_of : Half → Spot → ℕ → List ℕ
+  abbrev pub gate_clause_of : Half → Spot → GatePart → List ℕ
   gate_clause_of half spot part =
       let g = gate_at (runs half spot.cycle) spot.at in
-      gate_clause part (gate_variable c.shape half spot) (named (names_in half spot.cycle) g.0) (named (names_in half spot.cycle) g.1)
+      gate_clause (gate_part part) (gate_variable c.shape half spot) (named (names_in half spot.cycle) g.0) (named (names_in half spot.cycle) g.1)
 
-  abbrev pub output_clause_of : Spot → ℕ → List ℕ
-  output_clause_of spot part = difference_clause part (output_variable c.shape spot) (output_of Left spot) (output_of Right spot)
+  abbrev pub output_clause_of : Spot → DifferencePart → List ℕ
+  output_clause_of spot part = difference_clause (difference_part part) (output_variable c.shape spot) (output_of Left spot) (output_of Right spot)
 
-  abbrev pub final_clause_of : ℕ → ℕ → List ℕ
-  final_clause_of flop part = difference_clause part (final_variable c.shape flop) (final_of Left flop) (final_of Right flop)
+  abbrev pub final_clause_of : ℕ → DifferencePart → List ℕ
+  final_clause_of flop part = difference_clause (difference_part part) (final_variable c.shape flop) (final_of Left flop) (final_of Right flop)
 
   abbrev pub clause_of : Place → List ℕ
   clause_of Constant = 3 ∷ []
@@ -65,10 +69,10 @@ module _ (c : Compared) where
   clause_of (Fixed k) = slice_index c.fixed k ∷ []
 
 -- how many literals it has
-abbrev pub gate_length : ℕ → ℕ
-gate_length zero = 2
-gate_length (suc zero) = 2
-gate_length (suc (suc part)) = 3
+abbrev pub gate_length : GatePart → ℕ
+gate_length ImpliesLeft = 2
+gate_length ImpliesRight = 2
+gate_length Implied = 3
 
 abbrev pub length_of : Shape → Place → ℕ
 length_of s Constant = 1

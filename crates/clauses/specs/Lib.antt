@@ -1,3 +1,4 @@
 pub mod Plans
+pub mod Parts
 pub mod Shapes
 pub mod Asked

@@ -10,6 +10,7 @@ use Rattle.clauses.specs.declared.shape.Shape.{Shape}
 use Rattle.clauses.specs.declared.shape.Place.{Place}
 use Rattle.clauses.specs.declared.shape.Place.TheVariants.{Constant, Gate, Output, Final, Differences, Fixed}
 use Rattle.circuits.specs.Sides.{other_side}
+use Rattle.clauses.specs.Parts.{gate_part, difference_part}
 use Rattle.clauses.specs.Plans.{half_row, side_in}
 
 -- the sizes of circuits of these counts, where these start bits are fixed
@@ -100,12 +101,12 @@ module _ (s : Shape) where
   abbrev pub Stands : ℕ → Place → Type 0
   Stands c Constant = c ≡ 1
   Stands c (Gate half spot part) =
-      (spot.cycle < s.plan.cycles) × (spot.at < gates_in half spot.cycle) × (part < 3)
-      × (c ≡ 2 + 3 * (gates_ahead half + (gates_before half spot.cycle + spot.at)) + part)
+      (spot.cycle < s.plan.cycles) × (spot.at < gates_in half spot.cycle)
+      × (c ≡ 2 + 3 * (gates_ahead half + (gates_before half spot.cycle + spot.at)) + gate_part part)
   Stands c (Output spot part) =
-      (spot.cycle < s.plan.cycles) × (spot.at < s.original.outputs) × (part < 2)
-      × (c ≡ 2 + 3 * all_gates + 2 * (spot.cycle * s.original.outputs + spot.at) + part)
-  Stands c (Final flop part) = (flop < s.original.flops) × (part < 2) × (c ≡ 2 + 3 * all_gates + 2 * (all_outputs + flop) + part)
+      (spot.cycle < s.plan.cycles) × (spot.at < s.original.outputs)
+      × (c ≡ 2 + 3 * all_gates + 2 * (spot.cycle * s.original.outputs + spot.at) + difference_part part)
+  Stands c (Final flop part) = (flop < s.original.flops) × (c ≡ 2 + 3 * all_gates + 2 * (all_outputs + flop) + difference_part part)
   Stands c Differences = c ≡ 2 + 3 * all_gates + 2 * all_differences
   Stands c (Fixed k) = (k < s.fixed) × (c ≡ 3 + 3 * all_gates + 2 * all_differences + k)
 

@@ -7,6 +7,7 @@ ghost use Rattle.clauses.specs.Asked.{runs, OfCycle, names_in, output_of, final_
 
 use crate::fixed::Fixed;
 use crate::literal::{difference_literal, gate_literal, inverted};
+use crate::part::{DifferencePart, GatePart};
 use crate::plan::{Half, Plan};
 use crate::running::Running;
 use crate::shape::{Shape, Spot};
@@ -116,9 +117,9 @@ impl<'a, O: Circuit, G: Circuit> Comparison<'a, O, G> {
         self.named(half, last, x)
     }
 
-    // Literal i of clause `part` about a gate.
+    // Literal i of a clause about a gate.
     #[tactic(auto, using(circuits::proofs::Lookups::gate_low))]
-    fn gate_literal(&self, half: Half, spot: Spot, part: u32, i: u32) -> u32
+    fn gate_literal(&self, half: Half, spot: Spot, part: GatePart, i: u32) -> u32
         requires early { spot.cycle < self.now.shape.plan.cycles }
         requires low { spot.at ≤ 8192 }
         ensures { result ≡ slice_index (gate_clause_of self.now half spot part) i }
@@ -130,8 +131,8 @@ impl<'a, O: Circuit, G: Circuit> Comparison<'a, O, G> {
         gate_literal(variable, left, right, part, i)
     }
 
-    // Literal i of clause `part` about the difference of an output, and of a final bit.
-    fn output_literal(&self, spot: Spot, part: u32, i: u32) -> u32
+    // Literal i of a clause about the difference of an output, and of a final bit.
+    fn output_literal(&self, spot: Spot, part: DifferencePart, i: u32) -> u32
         requires early { spot.cycle < self.now.shape.plan.cycles }
         requires low { spot.at < self.now.shape.original.outputs }
         ensures { result ≡ slice_index (output_clause_of self.now spot part) i }
@@ -142,7 +143,7 @@ impl<'a, O: Circuit, G: Circuit> Comparison<'a, O, G> {
         difference_literal(variable, left, right, part, i)
     }
 
-    fn final_literal(&self, flop: u32, part: u32, i: u32) -> u32
+    fn final_literal(&self, flop: u32, part: DifferencePart, i: u32) -> u32
         requires { flop < self.now.shape.original.flops }
         ensures { result ≡ slice_index (final_clause_of self.now flop part) i }
     {

@@ -4,6 +4,7 @@
 pub mod comparison;
 pub mod fixed;
 mod literal;
+pub mod part;
 pub mod plan;
 mod running;
 pub mod shape;

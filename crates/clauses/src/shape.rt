@@ -3,6 +3,7 @@ ghost use Rattle.std.specs.Prelude.{◌≡◌, ◌≤◌};
 ghost use Rattle.circuits.specs.Net.{BoundedCounts};
 ghost use Rattle.clauses.specs.Plans.{InTime};
 
+use crate::part::{DifferencePart, GatePart};
 use crate::plan::{Half, Plan, Row};
 use circuits::counts::Counts;
 use circuits::side::Side;
@@ -30,16 +31,16 @@ pub struct Shape {
     ghost few_fixed: { fixed ≤ 256 },
 }
 
-// What a clause is about; where a part is given, which of the clauses about it.
+// What a clause is about, and which of the clauses about it.
 #[derive(Clone, Copy, Debug, PartialEq, Eq)]
 pub enum Place {
     Constant,
     // a gate in a cycle of a row
-    Gate(Half, Spot, u32),
+    Gate(Half, Spot, GatePart),
     // the difference of an output in a cycle
-    Output(Spot, u32),
+    Output(Spot, DifferencePart),
     // the difference of a flop's final bit
-    Final(u32, u32),
+    Final(u32, DifferencePart),
     // that there is a difference
     Differences,
     // a start bit that is fixed
@@ -236,11 +237,12 @@ impl Shape {
         ensures { spec.Stands self (2 + q) result }
     {
         let g = q / 3;
+        let part = GatePart::at(q % 3);
         let lefts = self.gates_in_row(Half::Left);
         if g < lefts {
-            Place::Gate(Half::Left, self.spot(Half::Left, g), q % 3)
+            Place::Gate(Half::Left, self.spot(Half::Left, g), part)
         } else {
-            Place::Gate(Half::Right, self.spot(Half::Right, g - lefts), q % 3)
+            Place::Gate(Half::Right, self.spot(Half::Right, g - lefts), part)
         }
     }
 
@@ -250,16 +252,17 @@ impl Shape {
         ensures { spec.Stands self (2 + 3 * spec.all_gates self + q) result }
     {
         let e = q / 2;
+        let part = DifferencePart::at(q % 2);
         let outputs = self.outputs();
         if e >= outputs {
-            return Place::Final(e - outputs, q % 2);
+            return Place::Final(e - outputs, part);
         }
         let each = self.original.outputs;
         let spot = Spot {
             cycle: e / each,
             at: e % each,
         };
-        Place::Output(spot, q % 2)
+        Place::Output(spot, part)
     }
 
     // What clause c is about, if there is one.
