@@ -7,3 +7,4 @@ pub mod Padded
 pub mod Matched
 pub mod Pins
 pub mod Sides
+pub mod Kinds

@@ -15,7 +15,7 @@ pub const MOST_GATES: u32 = 8_192;
 pub const MOST_OUTPUTS: u32 = 256;
 
 // The words that suffice for every circuit: two for each gate and each flop, one for each output.
-pub const MOST_WORDS: usize = 17_152;
+pub const MOST_WORDS: usize = (2 * MOST_GATES + 2 * MOST_FLOPS + MOST_OUTPUTS) as usize;
 
 // How many inputs, flops, gates and outputs a circuit has.
 #[derive(Clone, Copy, Debug, PartialEq, Eq)]
@@ -42,7 +42,7 @@ impl Counts {
     pub fn last_net(self) -> u64
         ensures { result ≡ last_net self }
     {
-        self.inputs as u64 + self.flops as u64 + self.gates as u64
+        u64::from(self.inputs) + u64::from(self.flops) + u64::from(self.gates)
     }
 
     // The literal that no other exceeds: the inverse of the last net.
@@ -56,7 +56,7 @@ impl Counts {
     pub fn room(self) -> u64
         ensures { result ≡ spec.room self }
     {
-        2 * self.gates as u64 + 2 * self.flops as u64 + self.outputs as u64
+        2 * u64::from(self.gates) + 2 * u64::from(self.flops) + u64::from(self.outputs)
     }
 }
 

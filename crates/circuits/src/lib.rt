@@ -4,6 +4,7 @@
 pub mod circuit;
 pub mod counts;
 pub mod dummy;
+pub mod kind;
 pub mod numbered;
 pub mod pin;
 pub mod side;

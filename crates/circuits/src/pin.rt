@@ -1,5 +1,6 @@
 // The bit that a flop starts with.
-ghost use Rattle.std.specs.Prelude.{◌≡◌};
+ghost use Rattle.std.specs.Prelude.{◌≡◌, Some};
+ghost use Rattle.circuits.specs.Told.{told_no_pin};
 ghost use Rattle.circuits.specs.Pins.{pin_word, PinOfWord};
 
 use std::error::Error;
@@ -46,6 +47,8 @@ impl TryFrom<u32> for Pin {
 }
 
 impl fmt::Display for NoPin {
+    ghost output = { λ none. Some (told_no_pin none) };
+
     fn fmt<W: fmt::Write>(&self, f: &mut fmt::Formatter<W>) -> fmt::Result {
         write!(f, "{} is no pin", self.0)
     }
