@@ -34,7 +34,7 @@ fn judge<'p, C: Circuit>(below: &C, order: &'p [u32]) -> Result<Order<'p>, Match
 impl<'a, 'p, C: Circuit> Matched<'a, 'p, C> {
     // The circuit below with its flops in this order, or why not: the length is judged first, then each flop.
     pub fn new(below: &'a C, order: &'p [u32]) -> Result<Matched<'a, 'p, C>, MatchFault>
-        ensures answer { meant (λ m. matched (C.Circuit.meaning m.below.now) m.order.flops.now) result ≡ matching (C.Circuit.meaning below.now) order.now }
+        ensures answer { meant (λ m. ⟦<Matched<'a, 'p, C> as Circuit>⟧.meaning m) result ≡ matching (C.Circuit.meaning below.now) order.now }
         ensures exact { MatchesOrders (C.Circuit.meaning below.now).counts.flops order.now }
         ensures laws { OnOk result (MatchingLaws (C.Circuit.meaning below.now) order.now) }
     {

@@ -83,7 +83,7 @@ impl<'a, 'd, C: Circuit> Padded<'a, 'd, C> {
     // The circuit below with these dummies, or why not: the number of dummies is judged first, then each dummy, its literal before
     // its pin.
     pub fn new(below: &'a C, dummies: &'d [Dummy]) -> Result<Padded<'a, 'd, C>, PadFault>
-        ensures answer { meant (λ p. padded (C.Circuit.meaning p.below.now) p.dummies.now) result ≡ padding (C.Circuit.meaning below.now) dummies.now }
+        ensures answer { meant (λ p. ⟦<Padded<'a, 'd, C> as Circuit>⟧.meaning p) result ≡ padding (C.Circuit.meaning below.now) dummies.now }
         ensures exact { PadsFitting (C.Circuit.meaning below.now).counts dummies.now }
         ensures laws { OnOk result (PaddingLaws (C.Circuit.meaning below.now) dummies.now) }
     {
