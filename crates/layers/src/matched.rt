@@ -11,6 +11,7 @@ use crate::fault::MatchFault;
 use crate::order::Order;
 use circuits::circuit::{Circuit, Gate};
 use circuits::counts::Counts;
+use circuits::kind::NetKind;
 use circuits::pin::Pin;
 
 // The circuit below, whose flop `order[j]` is flop j here.
@@ -53,14 +54,12 @@ impl<'a, 'p, C: Circuit> Matched<'a, 'p, C> {
     fn literal(&self, x: u32) -> u32
         ensures { result ≡ renumbered (flops_moved (C.Circuit.meaning self.now.below.now).counts (place self.now.order.flops.now)) x }
     {
-        let Counts { inputs, flops, .. } = self.below.counts();
-        let net = x / 2;
-        if net <= inputs || net > inputs + flops {
+        let counts = self.below.counts();
+        let NetKind::Flop(flop) = counts.kind(x / 2) else {
             return x;
-        }
-        let flop = net - (1 + inputs);
+        };
         let place = self.order.place(flop);
-        2 * (1 + inputs + place) + x % 2
+        2 * (1 + counts.inputs + place) + x % 2
     }
 }
 

@@ -13,6 +13,7 @@ use crate::fault::PadFault;
 use circuits::circuit::{Circuit, Gate};
 use circuits::counts::{Counts, MOST_FLOPS};
 use circuits::dummy::Dummy;
+use circuits::kind::NetKind;
 use circuits::pin::Pin;
 
 pub const MOST_DUMMIES: usize = 16;
@@ -96,11 +97,10 @@ impl<'a, 'd, C: Circuit> Padded<'a, 'd, C> {
         requires { x ≤ top (C.Circuit.meaning self.now.below.now).counts }
         ensures { result ≡ renumbered (moved_up (C.Circuit.meaning self.now.below.now).counts (length self.now.dummies.now)) x }
     {
-        let Counts { inputs, flops, .. } = self.below.counts();
-        if x / 2 <= inputs + flops {
-            return x;
+        match self.below.counts().kind(x / 2) {
+            NetKind::False | NetKind::Input(_) | NetKind::Flop(_) => x,
+            NetKind::Gate(_) => x + 2 * self.dummies.len() as u32,
         }
-        x + 2 * self.dummies.len() as u32
     }
 
     // The dummy that flop j is, if it is one.
