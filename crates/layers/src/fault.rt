@@ -31,8 +31,8 @@ impl fmt::Display for PadFault {
 
     fn fmt<W: fmt::Write>(&self, f: &mut fmt::Formatter<W>) -> fmt::Result {
         match self {
-            PadFault::ManyDummies => write!(f, "dummies"),
-            PadFault::ManyFlops => write!(f, "flops"),
+            PadFault::ManyDummies => f.write_str("dummies"),
+            PadFault::ManyFlops => f.write_str("flops"),
             PadFault::LargeLiteral(k) => write!(f, "literal of dummy {k}"),
             PadFault::LargePin(k) => write!(f, "pin of dummy {k}"),
         }
@@ -62,7 +62,7 @@ impl fmt::Display for MatchFault {
 
     fn fmt<W: fmt::Write>(&self, f: &mut fmt::Formatter<W>) -> fmt::Result {
         match self {
-            MatchFault::WrongLength => write!(f, "length"),
+            MatchFault::WrongLength => f.write_str("length"),
             MatchFault::Unmatched(flop) => write!(f, "flop {flop}"),
         }
     }

@@ -4,7 +4,7 @@ ghost use Rattle.std.specs.List.{range_with_len};
 ghost use Rattle.circuits.specs.Checks.{unless_due};
 ghost use Rattle.circuits.specs.Matched.{place, InSomeOrder};
 ghost use Rattle.layers.specs.Layers.{meant};
-ghost use Rattle.layers.specs.Matching.{flop_check, match_checks, MatchesOrders};
+ghost use Rattle.layers.specs.Matching.{flop_check, match_checks};
 ghost use Rattle.layers.specs.Orders.{KeptPlaces, PlacesOf};
 
 use crate::fault::MatchFault;
@@ -55,11 +55,9 @@ fn judge_flops(flops: &[u32], places: &[u32; FLOPS]) -> Result<(), MatchFault>
 
 impl<'p> Order<'p> {
     // This order for so many flops, or why it is none: the length is judged first, then each flop.
-    #[tactic(auto, using(crate::proofs::Matches::matches_orders))]
     pub(crate) fn new(flops: &'p [u32], count: u32) -> Result<Order<'p>, MatchFault>
         requires { count ≤ 256 }
         ensures answer { meant (λ order. order.flops.now) result ≡ unless_due (match_checks count flops.now) flops.now }
-        ensures exact { MatchesOrders count flops.now }
         ensures ordered { OnOk result (InSomeOrder count flops.now) }
     {
         if flops.len() != count as usize {

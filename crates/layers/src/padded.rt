@@ -60,35 +60,25 @@ fn judge_dummies(counts: Counts, dummies: &[Dummy]) -> Result<(), PadFault>
     Ok(())
 }
 
-#[tactic(auto, using(crate::proofs::Pads::pads_fitting, crate::proofs::Pads::passed_fits))]
-fn judge_all(counts: Counts, dummies: &[Dummy]) -> Result<(), PadFault>
+#[tactic(auto, using(crate::proofs::Pads::passed_fits))]
+fn judge(counts: Counts, dummies: &[Dummy]) -> Result<(), PadFault>
     ensures answer { result ≡ unless_due (pad_checks counts dummies.now) tt }
-    ensures exact { PadsFitting counts dummies.now }
     ensures fits { OnOk result (Fitting counts dummies.now) }
 {
     judge_count(counts, dummies.len())?;
     judge_dummies(counts, dummies)
 }
 
-// Judges the dummies for the circuit below; those that pass keep the laws of padding.
-fn judge<C: Circuit>(below: &C, dummies: &[Dummy]) -> Result<(), PadFault>
-    ensures answer { result ≡ unless_due (pad_checks (C.Circuit.meaning below.now).counts dummies.now) tt }
-    ensures exact { PadsFitting (C.Circuit.meaning below.now).counts dummies.now }
-    ensures fits { OnOk result (Fitting (C.Circuit.meaning below.now).counts dummies.now) }
-    ensures laws { OnOk result (PaddingLaws (C.Circuit.meaning below.now) dummies.now) }
-{
-    judge_all(below.counts(), dummies)
-}
-
 impl<'a, 'd, C: Circuit> Padded<'a, 'd, C> {
     // The circuit below with these dummies, or why not: the number of dummies is judged first, then each dummy, its literal before
     // its pin.
+    #[tactic(auto, using(crate::proofs::Pads::pads_fitting))]
     pub fn new(below: &'a C, dummies: &'d [Dummy]) -> Result<Padded<'a, 'd, C>, PadFault>
         ensures answer { meant (λ p. ⟦<Padded<'a, 'd, C> as Circuit>⟧.meaning p) result ≡ padding (C.Circuit.meaning below.now) dummies.now }
         ensures exact { PadsFitting (C.Circuit.meaning below.now).counts dummies.now }
         ensures laws { OnOk result (PaddingLaws (C.Circuit.meaning below.now) dummies.now) }
     {
-        judge(below, dummies)?;
+        judge(below.counts(), dummies)?;
         Ok(Padded { below, dummies })
     }
 
@@ -151,6 +141,7 @@ impl<'a, 'd, C: Circuit> Circuit for Padded<'a, 'd, C> {
 
     fn pin(&self, j: u32) -> Pin {
         match self.dummy(j) {
+            // The word of a dummy that fits is that of a pin.
             Some(dummy) => Pin::try_from(dummy.pin).unwrap(),
             None => self.below.pin(j),
         }
