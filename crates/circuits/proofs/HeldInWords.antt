@@ -2,8 +2,8 @@
 use Rattle.std.proofs.Common.{◌≡◌, ℕ, zero, suc, ◌+◌, ◌*◌, ◌<◌, ◌≤◌, List, [], ◌∷◌, ◌++◌, map, length, get_or, take, drop, sym, refl, ap, ◌∙◌, subst, arith}
 use Rattle.std.proofs.Props.{props}
 use Rattle.std.specs.List.{range_with_len}
-use Rattle.std.proofs.lemmas.List.FromFn.{length-map-range_with_len, get_or-map-range_with_len}
-use Rattle.std.proofs.lemmas.List.{append_assoc, ext_get_or, get_or-append-add, get_or_append_left, get_or-drop, get_or-take, length-append, length-drop, length-take, drop-drop, drop_more, drop-take, take-append-drop, take-take}
+use Rattle.std.proofs.lemmas.List.FromFn.{fill_by_all}
+use Rattle.std.proofs.lemmas.List.{append_assoc, get_or-append-add, get_or_append_left, get_or-drop, get_or-take, length-append, length-drop, length-take, drop-drop, drop_more, drop-take, take-append-drop, take-take}
 use Rattle.circuits.specs.declared.counts.Counts.{Counts}
 use Rattle.circuits.specs.Net.{Net, Bounded, layout, operand_words, room}
 use Rattle.circuits.specs.Held.{Holds, net_in, pairs_in, row_in}
@@ -17,10 +17,7 @@ bounded_once n = Prim.hlevel props
 -- a list that is made by place is any list with the same elements
 pub made_is : {X : Type 0} (f : ℕ → X) (n : ℕ) (xs : List X) (d : X) → length xs ≡ n → ((k : ℕ) → k < n → f k ≡ get_or xs k d)
     → map f (range_with_len 0 n) ≡ xs
-made_is f n xs d e h =
-    ext_get_or d (map f (range_with_len 0 n)) xs (length-map-range_with_len f 0 n ∙ sym e) (λ k l.
-    let in_range : k < n = omega (arith, length-map-range_with_len f 0 n) in
-    get_or-map-range_with_len f 0 n k k d in_range (omega arith) ∙ h k in_range)
+made_is f n xs d e h = sym (fill_by_all f xs n d e (λ k l. sym (h k l)))
 
 -- the operands of gate i stand in words 2i and 2i + 1
 pair_words : (gs : List (ℕ × ℕ)) (later : List ℕ) (i : ℕ) → i < length gs
@@ -37,9 +34,9 @@ pair_words (g ∷ gs) later (suc i) h =
 -- a row between two parts is read off by its place
 row_between : (front row back : List ℕ) (from count : ℕ) → length front ≡ from → length row ≡ count → row_in from count (front ++ (row ++ back)) ≡ row
 row_between front row back from count e d =
-    made_is (λ k. get_or (front ++ (row ++ back)) (from + k) 0) count row 0 d (λ k l.
-    ap (λ m. get_or (front ++ (row ++ back)) (m + k) 0) (sym e) ∙ get_or-append-add front (row ++ back) k 0
-    ∙ get_or_append_left row back 0 k (omega arith))
+    sym (fill_by_all (λ k. get_or (front ++ (row ++ back)) (from + k) 0) row count 0 d (λ k l.
+    sym (ap (λ m. get_or (front ++ (row ++ back)) (m + k) 0) (sym e) ∙ get_or-append-add front (row ++ back) k 0
+    ∙ get_or_append_left row back 0 k (omega arith))))
 
 -- the circuit is read off from its layout
 net_in_layout : (n : Net) (later : List ℕ) → Bounded n → net_in n.counts (layout n ++ later) ≡ n
@@ -56,8 +53,8 @@ net_in_layout n later b =
     let e₃ : ws ≡ ((ops ++ n.nexts) ++ n.pins) ++ (n.outs ++ later) = e₂ ∙ sym (append_assoc (ops ++ n.nexts) n.pins _) in
     let l₂ = length-append ops n.nexts in let l₃ = length-append (ops ++ n.nexts) n.pins in
     let gates : pairs_in c.gates ws ≡ n.operands =
-    made_is (λ k. (get_or ws (2 * k) 0, get_or ws (2 * k + 1) 0)) c.gates n.operands (0, 0) lo (λ k l.
-    ap (λ (w : List ℕ). (get_or w (2 * k) 0, get_or w (2 * k + 1) 0)) e₀ ∙ pair_words n.operands _ k (omega arith)) in
+    sym (fill_by_all (λ k. (get_or ws (2 * k) 0, get_or ws (2 * k + 1) 0)) n.operands c.gates (0, 0) lo (λ k l.
+    sym (ap (λ (w : List ℕ). (get_or w (2 * k) 0, get_or w (2 * k + 1) 0)) e₀ ∙ pair_words n.operands _ k (omega arith)))) in
     let nexts : row_in (2 * c.gates) c.flops ws ≡ n.nexts =
     ap (row_in (2 * c.gates) c.flops) e₁ ∙ row_between ops n.nexts _ (2 * c.gates) c.flops (omega arith) ln in
     let pins : row_in (2 * c.gates + c.flops) c.flops ws ≡ n.pins =
@@ -72,8 +69,8 @@ net_in_layout n later b =
 pub row_words : (words : List ℕ) (from count : ℕ) → from + count ≤ length words → row_in from count words ≡ take count (drop from words)
 row_words words from count h =
     let l = length-take count (drop from words) in let l' = length-drop from words in
-    made_is (λ k. get_or words (from + k) 0) count (take count (drop from words)) 0 (omega arith) (λ k i.
-    sym (get_or-take count (drop from words) k 0 i ∙ get_or-drop from words k 0))
+    sym (fill_by_all (λ k. get_or words (from + k) 0) (take count (drop from words)) count 0 (omega arith) (λ k i.
+    get_or-take count (drop from words) k 0 i ∙ get_or-drop from words k 0))
 
 pair_part : (words : List ℕ) (a n : ℕ) → 2 * (a + n) ≤ length words
     → operand_words (map (λ k. (get_or words (2 * k) 0, get_or words (2 * k + 1) 0)) (range_with_len a n)) ≡ take (2 * n) (drop (2 * a) words)

@@ -1,5 +1,6 @@
 -- Matched circuits: their bounds, what a cycle gives, and the way back.
 use Rattle.std.proofs.Common.{◌≡◌, ℕ, ◌+◌, ◌-◌, ◌*◌, ◌/◌, ◌%◌, ◌<◌, ◌≤◌, Bool, false, ◌⊎◌, List, map, length, get_or, sym, refl, ap, ◌∙◌, subst, ap₂, inl, inr, ⊎_elim, arith}
+use lib.ListN.{get_or-map as get_or-mapped}
 use Rattle.std.proofs.ByRecursion.{All-map, All-weaker, All-from_get_or}
 use Rattle.std.proofs.lemmas.List.{length-map, get_or-map, ext_get_or}
 use Rattle.std.proofs.lemmas.Bool.{cases_lt}
@@ -9,7 +10,7 @@ use Rattle.circuits.specs.Net.{Net, Bounded, top, gate_at, gate_literal, next_at
 use Rattle.circuits.specs.Renumbered.{renumbered, both_renumbered}
 use Rattle.circuits.specs.Matched.{place, InSomeOrder, flops_moved, rewired, matched, inverse, permuted, MatchingLaws}
 use Rattle.circuits.proofs.NetsBefore.{length_before, before_ins, before_flop}
-use Rattle.circuits.proofs.Mapped.{map_twice, map_back, get_or_mapped, any_get_or}
+use Rattle.circuits.proofs.Mapped.{map_twice, map_back, any_get_or}
 use Rattle.circuits.proofs.Orders.{at_place, names_flops, inverse_in_order, inverse_at, place_inverse}
 use Rattle.circuits.proofs.Renumbering.{Agree, same_values}
 
@@ -144,7 +145,7 @@ matching_laws n p b o =
       permuted_nexts = λ state inputs.
           let V = below state inputs in
           map_twice (λ f. get_or (map V n.nexts) f false) (above state inputs) (λ f. renumbered t (next_at n f))
-          (λ f. same state inputs (next_at n f) ∙ sym (get_or_mapped V 0 false refl n.nexts f)) p;
+          (λ f. same state inputs (next_at n f) ∙ sym (get_or-mapped V n.nexts f 0)) p;
       names_flops = names_flops c.flops p o;
       inverse_in_order = inverse_in_order c.flops p o;
       matched_back = matched_back n p b o;

@@ -1,23 +1,20 @@
 -- What the checks of an order say, and what passes them.
-use Rattle.std.proofs.Common.{◌≡◌, ℕ, zero, suc, ◌+◌, ◌-◌, ◌<◌, ◌≤◌, false, List, ◌∷◌, map, length, get_or, Ok, Err, Result, sym, refl, ap, ◌∙◌, arith}
-use Rattle.std.specs.List.{range_with_len, slice_get, AllByRecursion}
+use Rattle.std.proofs.Common.{◌≡◌, ℕ, zero, suc, ◌+◌, ◌-◌, ◌<◌, ◌≤◌, List, ◌∷◌, map, length, get_or, Ok, Err, Result, sym, refl, ap, ◌∙◌, arith}
+use Rattle.std.specs.List.{range_with_len, slice_get}
 use Rattle.std.specs.Option.{unwrap_or}
 use Rattle.std.proofs.lemmas.Bool.Decides.{nat_tests}
 use Rattle.std.proofs.lemmas.Grind.{common_steps}
 use Rattle.std.proofs.lemmas.Option.{gets}
-use Rattle.circuits.specs.Checks.{Check, unless_due}
+use Rattle.circuits.specs.Checks.{unless_due}
 use Rattle.circuits.specs.Net.{Net, Bounded}
 use Rattle.circuits.specs.Matched.{place, InSomeOrder}
-use Rattle.circuits.proofs.Checking.{all_passed, none_due, none_from_ok}
+use Rattle.circuits.proofs.Checking.{Passed, all_passed, none_due, none_from_ok}
 use Rattle.circuits.proofs.Orders.{at_place, place_le, names_flops}
 use Rattle.layers.specs.declared.fault.MatchFault.{MatchFault}
 use Rattle.layers.specs.declared.fault.MatchFault.TheVariants.{Unmatched}
 use Rattle.layers.specs.Matching.{flop_check, match_checks, MatchesOrders}
 use Rattle.layers.specs.MatchedAnswers.{StandsAt}
 use Rattle.layers.specs.Orders.{KeptPlaces, PlacesOf}
-
-abbrev Passed : List (Check MatchFault) → Type 0
-Passed = AllByRecursion (λ c. c.1 ≡ false)
 
 -- the places after the first j entries of p
 pub record PlacedTo (p places : List ℕ) (j : ℕ) : Type 0 where

@@ -1,5 +1,5 @@
 -- What the checks of dummies say, and what a padding answers for a flop.
-use Rattle.std.proofs.Common.{◌≡◌, ℕ, ◌+◌, ◌-◌, ◌<◌, ◌≤◌, false, ◌⊎◌, List, [], ◌∷◌, ◌++◌, map, length, get_or, Some, None, Ok, Option, Bor, sym, inl, inr, arith}
+use Rattle.std.proofs.Common.{◌≡◌, ℕ, ◌+◌, ◌-◌, ◌<◌, ◌≤◌, ◌⊎◌, List, [], ◌∷◌, ◌++◌, map, length, get_or, Some, None, Ok, Option, Bor, sym, inl, inr, arith}
 use Rattle.std.specs.List.{AllByRecursion}
 use Rattle.std.specs.Option.{option_copied}
 use Rattle.std.specs.Slice.{IsItemAt}
@@ -8,18 +8,14 @@ use Rattle.std.proofs.lemmas.Bool.Decides.{nat_tests}
 use Rattle.std.proofs.lemmas.Grind.{common_steps}
 use Rattle.circuits.specs.declared.counts.Counts.{Counts}
 use Rattle.circuits.specs.declared.dummy.Dummy.{Dummy}
-use Rattle.circuits.specs.Checks.{Check, unless_due}
+use Rattle.circuits.specs.Checks.{unless_due}
 use Rattle.circuits.specs.Net.{Net, Bounded}
 use Rattle.circuits.specs.Padded.{Fitting}
-use Rattle.circuits.proofs.Checking.{all_passed, none_due, none_from_ok}
+use Rattle.circuits.proofs.Checking.{Passed, all_passed, none_due, none_from_ok}
 use Rattle.circuits.proofs.Lookups.{next_low}
 use Rattle.circuits.proofs.Paddings.{Fits}
-use Rattle.layers.specs.declared.fault.PadFault.{PadFault}
 use Rattle.layers.specs.Padding.{each_checked, pad_checks, PadsFitting}
 use Rattle.layers.specs.PaddedAnswers.{AnsweredBelow, Found}
-
-abbrev Passed : List (Check PadFault) → Type 0
-Passed = AllByRecursion (λ c. c.1 ≡ false)
 
 each_fits : (c : Counts) (k : ℕ) (ds : List Dummy) → Passed (each_checked c k ds) → AllByRecursion (Fits c) ds
 each_fits c k [] a = tt

@@ -25,7 +25,8 @@ pub struct Matched<'a, 'p, C: Circuit> {
 
 // The order, judged for the circuit below; one that passes keeps the laws of matching.
 fn judge<'p, C: Circuit>(below: &C, order: &'p [u32]) -> Result<Order<'p>, MatchFault>
-    ensures answer { meant (λ judged. judged.flops.now) result ≡ unless_due (match_checks (C.Circuit.meaning below.now).counts.flops order.now) order.now }
+    ensures answer { meant (λ judged. judged.flops.now) result
+        ≡ unless_due (match_checks (C.Circuit.meaning below.now).counts.flops order.now) order.now }
     ensures ordered { OnOk result (InSomeOrder (C.Circuit.meaning below.now).counts.flops order.now) }
     ensures laws { OnOk result (MatchingLaws (C.Circuit.meaning below.now) order.now) }
 {
@@ -36,7 +37,8 @@ impl<'a, 'p, C: Circuit> Matched<'a, 'p, C> {
     // The circuit below with its flops in this order, or why not: the length is judged first, then each flop.
     #[tactic(auto, using(crate::proofs::Matches::matches_orders))]
     pub fn new(below: &'a C, order: &'p [u32]) -> Result<Matched<'a, 'p, C>, MatchFault>
-        ensures answer { meant (λ m. ⟦<Matched<'a, 'p, C> as Circuit>⟧.meaning m) result ≡ matching (C.Circuit.meaning below.now) order.now }
+        ensures answer { meant (λ m. ⟦<Matched<'a, 'p, C> as Circuit>⟧.meaning m) result
+            ≡ matching (C.Circuit.meaning below.now) order.now }
         ensures exact { MatchesOrders (C.Circuit.meaning below.now).counts.flops order.now }
         ensures laws { OnOk result (MatchingLaws (C.Circuit.meaning below.now) order.now) }
     {

@@ -23,7 +23,7 @@ pub const MOST_DUMMIES: usize = 16;
 pub struct Padded<'a, 'd, C: Circuit> {
     below: &'a C,
     dummies: &'d [Dummy],
-    ghost fits: { Fitting (C.Circuit.meaning below.now).counts dummies.now } by { Fitting-prop (C.Circuit.meaning below.now).counts dummies.now },
+    ghost fits: { Fitting (C.Circuit.meaning below.now).counts dummies.now } by { Fitting-prop (C.Circuit.meaning below.now).counts _ },
 }
 
 fn judge_count(counts: Counts, dummies: usize) -> Result<(), PadFault>
@@ -74,7 +74,8 @@ impl<'a, 'd, C: Circuit> Padded<'a, 'd, C> {
     // its pin.
     #[tactic(auto, using(crate::proofs::Pads::pads_fitting))]
     pub fn new(below: &'a C, dummies: &'d [Dummy]) -> Result<Padded<'a, 'd, C>, PadFault>
-        ensures answer { meant (λ p. ⟦<Padded<'a, 'd, C> as Circuit>⟧.meaning p) result ≡ padding (C.Circuit.meaning below.now) dummies.now }
+        ensures answer { meant (λ p. ⟦<Padded<'a, 'd, C> as Circuit>⟧.meaning p) result
+            ≡ padding (C.Circuit.meaning below.now) dummies.now }
         ensures exact { PadsFitting (C.Circuit.meaning below.now).counts dummies.now }
         ensures laws { OnOk result (PaddingLaws (C.Circuit.meaning below.now) dummies.now) }
     {
