@@ -1,5 +1,5 @@
 // A circuit with its flops in another order.
-ghost use Rattle.std.specs.Prelude.{◌≡◌, IfOk, OnOk};
+ghost use Rattle.std.specs.Prelude.{◌≡◌, OnOk};
 ghost use Rattle.circuits.specs.Checks.{unless_due};
 ghost use Rattle.circuits.specs.Renumbered.{renumbered};
 ghost use Rattle.circuits.specs.Matched.{place, flops_moved, matched, InSomeOrder, MatchingLaws};

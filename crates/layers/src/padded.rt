@@ -60,6 +60,7 @@ fn judge_dummies(counts: Counts, dummies: &[Dummy]) -> Result<(), PadFault>
     Ok(())
 }
 
+// Judges the dummies for a circuit of these counts; those that pass fit it.
 #[tactic(auto, using(crate::proofs::Pads::passed_fits))]
 fn judge(counts: Counts, dummies: &[Dummy]) -> Result<(), PadFault>
     ensures answer { result ≡ unless_due (pad_checks counts dummies.now) tt }
