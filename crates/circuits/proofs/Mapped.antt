@@ -1,7 +1,7 @@
 -- Lists under a map, and what is read from a list at any place.
 use Rattle.std.proofs.Common.{◌≡◌, ℕ, zero, suc, List, [], ◌∷◌, map, get_or, sym, ap, ◌∙◌}
 use mathlib.Core.Path.{fun_ext}
-use lib.ListN.{get_or-map}
+use Rattle.std.proofs.Math.ListN.{get_or-map}
 use mathlib.Core.List.{map-map}
 use Rattle.std.specs.List.{AllByRecursion}
 use Rattle.std.proofs.lemmas.List.{map-id}
