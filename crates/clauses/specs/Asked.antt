@@ -12,9 +12,11 @@ use Rattle.clauses.specs.Parts.{gate_part, difference_part}
 use Rattle.clauses.specs.declared.shape.Spot.{Spot}
 use Rattle.clauses.specs.declared.shape.Shape.{Shape}
 use Rattle.clauses.specs.declared.shape.Place.{Place}
-use Rattle.clauses.specs.declared.shape.Place.TheVariants.{Constant, Gate, Output, Final, Differences, Fixed}
+use Rattle.clauses.specs.declared.shape.Place.TheVariants.{Constant, Gate, Difference as Differing, Differences, Fixed}
+use Rattle.clauses.specs.declared.shape.Difference.{Difference}
+use Rattle.clauses.specs.declared.shape.Difference.TheVariants.{Output, Final}
 use Rattle.clauses.specs.Plans.{side_in, on, left_of, half_of}
-use Rattle.clauses.specs.Shapes.{gate_variable, first_difference, output_variable, final_variable, all_differences}
+use Rattle.clauses.specs.Shapes.{gate_variable, first_difference, difference_variable, all_differences}
 
 -- two circuits, the sizes of their comparison, and the literals of the start bits that are fixed
 pub record Compared : Type 0 where
@@ -41,12 +43,10 @@ module _ (c : Compared) where
       let I = c.shape.original.inputs in
       let L = c.shape.original.flops in names_at (half_of c.original c.gated c.shape.plan half) (start I L) (input I L) (first_of half) t
 
-  -- what is compared: an output in a cycle of a row, and the final bit of a flop
-  abbrev pub output_of : Half → Spot → ℕ
-  output_of half spot = named (names_in half spot.cycle) (out_at (runs half spot.cycle) spot.at)
-
-  abbrev pub final_of : Half → ℕ → ℕ
-  final_of half flop = let last = c.shape.plan.cycles - 1 in named (names_in half last) (next_at (runs half last) flop)
+  -- what a row has there: an output in a cycle, or the final bit of a flop
+  abbrev pub compared_of : Half → Difference → ℕ
+  compared_of half (Output spot) = named (names_in half spot.cycle) (out_at (runs half spot.cycle) spot.at)
+  compared_of half (Final flop) = let last = c.shape.plan.cycles - 1 in named (names_in half last) (next_at (runs half last) flop)
 
   -- the clause that is about this
   abbrev pub gate_clause_of : Half → Spot → GatePart → List ℕ
@@ -54,17 +54,13 @@ module _ (c : Compared) where
       let g = gate_at (runs half spot.cycle) spot.at in
       gate_clause (gate_part part) (gate_variable c.shape half spot) (named (names_in half spot.cycle) g.0) (named (names_in half spot.cycle) g.1)
 
-  abbrev pub output_clause_of : Spot → DifferencePart → List ℕ
-  output_clause_of spot part = difference_clause (difference_part part) (output_variable c.shape spot) (output_of Left spot) (output_of Right spot)
-
-  abbrev pub final_clause_of : ℕ → DifferencePart → List ℕ
-  final_clause_of flop part = difference_clause (difference_part part) (final_variable c.shape flop) (final_of Left flop) (final_of Right flop)
+  abbrev pub difference_clause_of : Difference → DifferencePart → List ℕ
+  difference_clause_of d part = difference_clause (difference_part part) (difference_variable c.shape d) (compared_of Left d) (compared_of Right d)
 
   abbrev pub clause_of : Place → List ℕ
   clause_of Constant = 3 ∷ []
   clause_of (Gate half spot part) = gate_clause_of half spot part
-  clause_of (Output spot part) = output_clause_of spot part
-  clause_of (Final flop part) = final_clause_of flop part
+  clause_of (Differing d part) = difference_clause_of d part
   clause_of Differences = vars (all_differences c.shape) (first_difference c.shape)
   clause_of (Fixed k) = slice_index c.fixed k ∷ []
 
@@ -77,7 +73,6 @@ gate_length Implied = 3
 abbrev pub length_of : Shape → Place → ℕ
 length_of s Constant = 1
 length_of s (Gate half spot part) = gate_length part
-length_of s (Output spot part) = 3
-length_of s (Final flop part) = 3
+length_of s (Differing d part) = 3
 length_of s Differences = all_differences s
 length_of s (Fixed k) = 1

@@ -8,7 +8,9 @@ use Rattle.clauses.specs.declared.plan.Half.TheVariants.{Left, Right}
 use Rattle.clauses.specs.declared.shape.Spot.{Spot}
 use Rattle.clauses.specs.declared.shape.Shape.{Shape}
 use Rattle.clauses.specs.declared.shape.Place.{Place}
-use Rattle.clauses.specs.declared.shape.Place.TheVariants.{Constant, Gate, Output, Final, Differences, Fixed}
+use Rattle.clauses.specs.declared.shape.Place.TheVariants.{Constant, Gate, Difference as Differing, Differences, Fixed}
+use Rattle.clauses.specs.declared.shape.Difference.{Difference}
+use Rattle.clauses.specs.declared.shape.Difference.TheVariants.{Output, Final}
 use Rattle.circuits.specs.Sides.{other_side}
 use Rattle.clauses.specs.Parts.{gate_part, difference_part}
 use Rattle.clauses.specs.Plans.{half_row, side_in}
@@ -56,6 +58,15 @@ module _ (s : Shape) where
   abbrev pub all_differences : ℕ
   all_differences = all_outputs + s.original.flops
 
+  -- what rows of these sizes are compared at, and its number among the differences
+  abbrev pub IsDifferenceOf : Difference → Type 0
+  IsDifferenceOf (Output spot) = (spot.cycle < s.plan.cycles) × (spot.at < s.original.outputs)
+  IsDifferenceOf (Final flop) = flop < s.original.flops
+
+  abbrev pub difference_number : Difference → ℕ
+  difference_number (Output spot) = spot.cycle * s.original.outputs + spot.at
+  difference_number (Final flop) = all_outputs + flop
+
   -- variables
   abbrev pub first_gate : ℕ
   first_gate = 2 + s.original.flops + s.plan.cycles * s.original.inputs
@@ -66,11 +77,8 @@ module _ (s : Shape) where
   abbrev pub first_difference : ℕ
   first_difference = first_gate + all_gates
 
-  abbrev pub output_variable : Spot → ℕ
-  output_variable spot = first_difference + spot.cycle * s.original.outputs + spot.at
-
-  abbrev pub final_variable : ℕ → ℕ
-  final_variable flop = first_difference + all_outputs + flop
+  abbrev pub difference_variable : Difference → ℕ
+  difference_variable d = first_difference + difference_number d
 
   abbrev pub all_variables : ℕ
   all_variables = first_difference + all_differences - 1
@@ -103,10 +111,7 @@ module _ (s : Shape) where
   Stands c (Gate half spot part) =
       (spot.cycle < s.plan.cycles) × (spot.at < gates_in half spot.cycle)
       × (c ≡ 2 + 3 * (gates_ahead half + (gates_before half spot.cycle + spot.at)) + gate_part part)
-  Stands c (Output spot part) =
-      (spot.cycle < s.plan.cycles) × (spot.at < s.original.outputs)
-      × (c ≡ 2 + 3 * all_gates + 2 * (spot.cycle * s.original.outputs + spot.at) + difference_part part)
-  Stands c (Final flop part) = (flop < s.original.flops) × (c ≡ 2 + 3 * all_gates + 2 * (all_outputs + flop) + difference_part part)
+  Stands c (Differing d part) = IsDifferenceOf d × (c ≡ 2 + 3 * all_gates + 2 * difference_number d + difference_part part)
   Stands c Differences = c ≡ 2 + 3 * all_gates + 2 * all_differences
   Stands c (Fixed k) = (k < s.fixed) × (c ≡ 3 + 3 * all_gates + 2 * all_differences + k)
 

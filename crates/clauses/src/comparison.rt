@@ -3,14 +3,15 @@ ghost use Rattle.std.specs.Prelude.{◌≡◌, ◌<◌, ◌≤◌, ◌↔◌, �
 ghost use Rattle.comparisons.specs.Clauses.{named as naming};
 ghost use Rattle.comparisons.specs.Opening as opening;
 ghost use Rattle.clauses.specs.Plans.{in_time};
-ghost use Rattle.clauses.specs.Asked.{runs, OfCycle, names_in, output_of, final_of, gate_clause_of, output_clause_of, final_clause_of};
+ghost use Rattle.clauses.specs.Shapes.{IsDifferenceOf};
+ghost use Rattle.clauses.specs.Asked.{runs, OfCycle, names_in, compared_of, gate_clause_of, difference_clause_of};
 
 use crate::fixed::Fixed;
 use crate::literal::{difference_literal, gate_literal, inverted};
 use crate::part::{DifferencePart, GatePart};
 use crate::plan::{Half, Plan};
 use crate::running::Running;
-use crate::shape::{Shape, Spot};
+use crate::shape::{Difference, Shape, Spot};
 use circuits::circuit::{Circuit, Gate};
 use circuits::counts::Counts;
 use circuits::side::Side;
@@ -100,28 +101,27 @@ impl<'a, O: Circuit, G: Circuit> Comparison<'a, O, G> {
         self.shape.own_literal(half, 0, x)
     }
 
-    // What is compared: an output in a cycle of a row, and the final bit of a flop.
-    fn output(&self, half: Half, spot: Spot) -> u32
-        requires { spot.cycle < self.now.shape.plan.cycles }
-        ensures { result ≡ output_of self.now half spot }
+    // What a row has where it is compared.
+    fn compared(&self, half: Half, difference: Difference) -> u32
+        requires { IsDifferenceOf self.now.shape difference }
+        ensures { result ≡ compared_of self.now half difference }
     {
-        let x = self.running(half, spot.cycle).out(spot.at);
-        self.named(half, spot.cycle, x)
-    }
-
-    fn final_bit(&self, half: Half, flop: u32) -> u32
-        ensures { result ≡ final_of self.now half flop }
-    {
-        let last = self.shape.plan.cycles - 1;
-        let x = self.running(half, last).next(flop);
-        self.named(half, last, x)
+        match difference {
+            Difference::Output(Spot { cycle, at }) => {
+                self.named(half, cycle, self.running(half, cycle).out(at))
+            }
+            Difference::Final(flop) => {
+                let last = self.shape.plan.cycles - 1;
+                self.named(half, last, self.running(half, last).next(flop))
+            }
+        }
     }
 
     // Literal i of a clause about a gate.
     #[tactic(auto, using(circuits::proofs::Lookups::gate_low))]
     fn gate_literal(&self, half: Half, spot: Spot, part: GatePart, i: u32) -> u32
         requires early { spot.cycle < self.now.shape.plan.cycles }
-        requires low { spot.at ≤ 8192 }
+        requires low { spot.at < 8192 }
         ensures { result ≡ slice_index (gate_clause_of self.now half spot part) i }
     {
         let variable = self.shape.gate_variable(half, spot);
@@ -131,25 +131,14 @@ impl<'a, O: Circuit, G: Circuit> Comparison<'a, O, G> {
         gate_literal(variable, left, right, part, i)
     }
 
-    // Literal i of a clause about the difference of an output, and of a final bit.
-    fn output_literal(&self, spot: Spot, part: DifferencePart, i: u32) -> u32
-        requires early { spot.cycle < self.now.shape.plan.cycles }
-        requires low { spot.at < self.now.shape.original.outputs }
-        ensures { result ≡ slice_index (output_clause_of self.now spot part) i }
+    // Literal i of a clause about a difference.
+    fn difference_literal(&self, difference: Difference, part: DifferencePart, i: u32) -> u32
+        requires { IsDifferenceOf self.now.shape difference }
+        ensures { result ≡ slice_index (difference_clause_of self.now difference part) i }
     {
-        let variable = self.shape.output_variable(spot);
-        let left = self.output(Half::Left, spot);
-        let right = self.output(Half::Right, spot);
-        difference_literal(variable, left, right, part, i)
-    }
-
-    fn final_literal(&self, flop: u32, part: DifferencePart, i: u32) -> u32
-        requires { flop < self.now.shape.original.flops }
-        ensures { result ≡ slice_index (final_clause_of self.now flop part) i }
-    {
-        let variable = self.shape.final_variable(flop);
-        let left = self.final_bit(Half::Left, flop);
-        let right = self.final_bit(Half::Right, flop);
+        let variable = self.shape.difference_variable(difference);
+        let left = self.compared(Half::Left, difference);
+        let right = self.compared(Half::Right, difference);
         difference_literal(variable, left, right, part, i)
     }
 }

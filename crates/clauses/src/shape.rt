@@ -15,6 +15,15 @@ pub struct Spot {
     pub at: u32,
 }
 
+// What the rows of a comparison are compared at.
+#[derive(Clone, Copy, Debug, PartialEq, Eq)]
+pub enum Difference {
+    // an output in a cycle
+    Output(Spot),
+    // the final bit of a flop
+    Final(u32),
+}
+
 // The counts of the two circuits, which have as many inputs, flops and outputs, the plan, and how many start bits are fixed.
 #[derive(Clone, Copy, Debug, PartialEq, Eq)]
 pub struct Shape {
@@ -37,10 +46,8 @@ pub enum Place {
     Constant,
     // a gate in a cycle of a row
     Gate(Half, Spot, GatePart),
-    // the difference of an output in a cycle
-    Output(Spot, DifferencePart),
-    // the difference of a flop's final bit
-    Final(u32, DifferencePart),
+    // what the rows are compared at
+    Difference(Difference, DifferencePart),
     // that there is a difference
     Differences,
     // a start bit that is fixed
@@ -157,22 +164,33 @@ impl Shape {
         self.first_gate() + self.gates_ahead(half) + before + spot.at
     }
 
-    // The variables of the differences: of an output in a cycle, and of the final bit of a flop.
-    pub(crate) fn output_variable(self, spot: Spot) -> u32
-        requires early { spot.cycle < self.plan.cycles }
-        requires low { spot.at < self.original.outputs }
-        ensures is { result ≡ spec.output_variable self spot }
-        ensures few { result ≤ 150000 }
+    // Difference e.
+    fn difference(self, e: u32) -> Difference
+        requires { e < spec.all_differences self }
+        ensures of { spec.IsDifferenceOf self result }
+        ensures number { spec.difference_number self result ≡ e }
     {
-        self.first_difference() + spot.cycle * self.original.outputs + spot.at
+        if let Some(flop) = e.checked_sub(self.outputs()) {
+            return Difference::Final(flop);
+        }
+        let each = self.original.outputs;
+        Difference::Output(Spot {
+            cycle: e / each,
+            at: e % each,
+        })
     }
 
-    pub(crate) fn final_variable(self, flop: u32) -> u32
-        requires { flop < self.original.flops }
-        ensures is { result ≡ spec.final_variable self flop }
+    // The variable of a difference.
+    pub(crate) fn difference_variable(self, difference: Difference) -> u32
+        requires { spec.IsDifferenceOf self difference }
+        ensures is { result ≡ spec.difference_variable self difference }
         ensures few { result ≤ 150000 }
     {
-        self.first_difference() + self.outputs() + flop
+        self.first_difference()
+            + match difference {
+                Difference::Output(spot) => spot.cycle * self.original.outputs + spot.at,
+                Difference::Final(flop) => self.outputs() + flop,
+            }
     }
 
     // The first variable of a difference.
@@ -237,13 +255,12 @@ impl Shape {
         ensures { spec.Stands self (2 + q) result }
     {
         let g = q / 3;
-        let part = GatePart::at(q % 3);
         let lefts = self.gates_in_row(Half::Left);
-        if g < lefts {
-            Place::Gate(Half::Left, self.spot(Half::Left, g), part)
-        } else {
-            Place::Gate(Half::Right, self.spot(Half::Right, g - lefts), part)
-        }
+        let (half, at) = match g.checked_sub(lefts) {
+            Some(at) => (Half::Right, at),
+            None => (Half::Left, g),
+        };
+        Place::Gate(half, self.spot(half, at), GatePart::at(q % 3))
     }
 
     // Clause q, from 0, of those about differences.
@@ -251,18 +268,7 @@ impl Shape {
         requires { q < 2 * spec.all_differences self }
         ensures { spec.Stands self (2 + 3 * spec.all_gates self + q) result }
     {
-        let e = q / 2;
-        let part = DifferencePart::at(q % 2);
-        let outputs = self.outputs();
-        if e >= outputs {
-            return Place::Final(e - outputs, part);
-        }
-        let each = self.original.outputs;
-        let spot = Spot {
-            cycle: e / each,
-            at: e % each,
-        };
-        Place::Output(spot, part)
+        Place::Difference(self.difference(q / 2), DifferencePart::at(q % 2))
     }
 
     // What clause c is about, if there is one.
