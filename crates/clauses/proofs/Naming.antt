@@ -1,5 +1,5 @@
 -- What a literal of a cycle is among the literals of the clauses.
-use Rattle.std.proofs.Common.{◌≡◌, ℕ, zero, suc, ◌+◌, ◌-◌, ◌*◌, ◌/◌, ◌%◌, ◌<◌, ◌≤◌, ◌⊎◌, List, [], length, get_or, Some, None, sym, refl, ap, ◌∙◌, subst, ap₂, inl, inr, arith}
+use Rattle.std.proofs.Common.{◌≡◌, ℕ, zero, suc, ◌+◌, ◌-◌, ◌*◌, ◌/◌, ◌%◌, ◌<◌, ◌≤◌, List, [], length, get_or, sym, refl, ap, ◌∙◌, subst, ap₂, inl, inr, arith}
 use Rattle.std.proofs.lemmas.List.{take_all}
 use Rattle.std.proofs.lemmas.Bool.Decides.{nat_tests}
 use Rattle.std.proofs.lemmas.Bool.{cases_lt}
@@ -9,11 +9,14 @@ use Rattle.comparisons.specs.Clauses.{negated, off, named, gate_count, start, in
 use Rattle.comparisons.specs.Places.{net_at, flops_at, cycle_at}
 use Rattle.comparisons.proofs.Numbered.{nets_named, bits_named}
 use Rattle.comparisons.proofs.Sized.{Sized}
+use Rattle.circuits.specs.Kinds.{IsKind}
+use Rattle.circuits.specs.declared.kind.NetKind.{NetKind}
+use Rattle.circuits.specs.declared.kind.NetKind.TheVariants.{False, Input, Flop, Gate}
 use Rattle.clauses.specs.declared.plan.Half.{Half}
 use Rattle.clauses.specs.declared.plan.Half.TheVariants.{Left, Right}
 use Rattle.clauses.specs.declared.shape.Shape.{Shape}
 use Rattle.clauses.specs.Plans.{side_in, left_of, half_of}
-use Rattle.clauses.specs.Shapes.{gates_ahead, gate_variable, own_variable, own_literal, flop_of}
+use Rattle.clauses.specs.Shapes.{gates_ahead, gate_variable, own_variable, own_literal, AreSizes}
 use Rattle.clauses.specs.Asked.{Compared, runs, OfCycle, first_of, names_in}
 use Rattle.clauses.proofs.Rows.{Sizes, on_bounded, sized_on, length_half, count_before, runs_is, rows_placed}
 
@@ -57,31 +60,6 @@ module _ (s : Shape) (half : Half) (t : ℕ) where
 
   var_gate : (g : ℕ) → own_variable s half t (1 + s.original.inputs + s.original.flops + g) ≡ gate_variable s half (record { cycle = t; at = g })
   var_gate g = grind (arith, nat_tests)
-
--- whether literal x names a flop
-data Names (s : Shape) (x : ℕ) : Type 0 where
-  a-flop : (j : ℕ) → j < s.original.flops → x / 2 ≡ 1 + s.original.inputs + j → flop_of s x ≡ Some j → Names s x
-  no-flop : (x / 2 ≤ s.original.inputs) ⊎ (s.original.inputs + s.original.flops < x / 2) → flop_of s x ≡ None → Names s x
-
-module _ (s : Shape) (x : ℕ) where
-  flop_below : x / 2 ≤ s.original.inputs → flop_of s x ≡ None
-  flop_below l = grind (arith, nat_tests)
-
-  flop_above : s.original.inputs + s.original.flops < x / 2 → flop_of s x ≡ None
-  flop_above l = grind (arith, nat_tests)
-
-  flop_within : s.original.inputs < x / 2 → x / 2 ≤ s.original.inputs + s.original.flops → flop_of s x ≡ Some (x / 2 - (1 + s.original.inputs))
-  flop_within h l = grind (arith, nat_tests)
-
-  names : Names s x
-  names =
-      elim (cases_lt s.original.inputs (x / 2)) [
-        | inr low ↦ no-flop (inl low) (flop_below low)
-        | inl high ↦ elim (cases_lt (s.original.inputs + s.original.flops) (x / 2)) [
-          | inl above ↦ no-flop (inr above) (flop_above above)
-          | inr within ↦ a-flop (x / 2 - (1 + s.original.inputs)) (omega arith) (omega arith) (flop_within high within)
-        ]
-      ]
 
 module _ {c : Compared} (sizes : Sizes c) where
   abbrev s : Shape
@@ -149,37 +127,31 @@ module _ {c : Compared} (sizes : Sizes c) where
         let net : get_or Nets (x / 2) off ≡ 2 * w = ap (λ u. get_or Nets u off) e ∙ n in
         ap (λ u. 2 * u + x % 2) own ∙ sym (ap (turned negated (x % 2)) net ∙ turned_even (x % 2) w (omega arith))
 
-    other_than_flop : (x : ℕ) → OfCycle c half t x → (x / 2 ≤ I) ⊎ (I + L < x / 2) → own_literal s half t x ≡ named Nets x
-    other_than_flop x o w =
-        let is = runs_is sizes half t lt in
-        elim w [
-          | inl low ↦ elim (cases_lt 0 (x / 2)) [
-            | inl some ↦ let i = x / 2 - 1 in by_net x (1 + i) _ (omega arith) (net_input i (omega arith)) (var_input s half t i (omega arith))
-            | inr none ↦ by_net x 0 1 (omega arith) net_off (var_off s half t)
+    -- a literal of any kind of net, of a flop in cycle 0
+    own : (x : ℕ) → OfCycle c half t x → (kind : NetKind) → IsKind s.original (x / 2) kind → ((j : ℕ) → kind ≡ Flop j → t ≡ 0)
+        → own_literal s half t x ≡ named Nets x
+    own x o False is start_flop = by_net x 0 1 is net_off (var_off s half t)
+    own x o (Input i) is start_flop = by_net x (1 + i) _ is.1 (net_input i is.0) (var_input s half t i is.0)
+    own x o (Flop j) is start_flop =
+        let at_start = (bits_named I L).of_start j is.0 in
+        let first = subst (λ u. get_or (flops_at (half_of c.original c.gated s.plan half) (start I L) (input I L) (first_of c half) u) j off ≡ 2 * (2 + j)) (sym (start_flop j refl)) at_start in
+        by_net x (1 + I + j) (2 + j) is.1 (net_flop j is.0 ∙ first) (var_flop s half t j is.0)
+    own x o (Gate g) is start_flop =
+        let below : x ≤ top net.counts = subst (λ (n : Net). x ≤ top n.counts) (sym (runs_is sizes half t lt)) o in
+        by_net x (1 + I + L + g) _ is (net_gate g (omega (arith, sized.inputs_are, sized.flops_are, bounded.operands_are))) (var_gate s half t g)
+
+    own_at_0 : (x : ℕ) → OfCycle c half t x → t ≡ 0 → own_literal s half t x ≡ named Nets x
+    own_at_0 x o e =
+        elim (cases_lt 0 (x / 2)) [
+          | inr none ↦ own x o False (omega arith) (λ j k. e)
+          | inl some ↦ elim (cases_lt I (x / 2)) [
+            | inr low ↦ own x o (Input (x / 2 - 1)) (omega arith, omega arith) (λ j k. e)
+            | inl high ↦ elim (cases_lt (I + L) (x / 2)) [
+              | inr within ↦ own x o (Flop (x / 2 - (1 + I))) (omega arith, omega arith) (λ j k. e)
+              | inl above ↦ own x o (Gate (x / 2 - (1 + I + L))) (omega arith) (λ j k. e)
+            ]
           ]
-          | inr high ↦
-              let g = x / 2 - (1 + I + L) in
-              let below : x ≤ top net.counts = subst (λ (n : Net). x ≤ top n.counts) (sym is) o in
-              by_net x (1 + I + L + g) _ (omega arith)
-              (net_gate g (omega (arith, sized.inputs_are, sized.flops_are, bounded.operands_are))) (var_gate s half t g)
         ]
-
-    -- what a literal is that names no flop
-    pub own_without_flop : (x : ℕ) → OfCycle c half t x → flop_of s x ≡ None → own_literal s half t x ≡ named Nets x
-    own_without_flop x o none = elim (names s x) [ no-flop w is ↦ other_than_flop x o w | a-flop j l e some ↦ cc ]
-
-  -- and any literal in cycle 0
-  own_at_0 : (half : Half) (x : ℕ) → OfCycle c half 0 x → own_literal s half 0 x ≡ named (names_in c half 0) x
-  own_at_0 half x o =
-      let lt : 0 < s.plan.cycles = omega (arith, s.in_time.some_cycle) in
-      elim (names s x) [
-        | no-flop w is ↦ other_than_flop half 0 lt x o w
-        | a-flop j l e is ↦ by_net half 0 lt x (1 + I + j) (2 + j) e (net_flop half 0 lt j l ∙ (bits_named I L).of_start j l) (var_flop s half 0 j l)
-      ]
-
-  pub own_at_start : (half : Half) (t x : ℕ) → t ≡ 0 → OfCycle c half t x → own_literal s half 0 x ≡ named (names_in c half t) x
-  own_at_start half t x e o =
-      own_at_0 half x (subst (λ u. OfCycle c half u x) e o) ∙ ap (λ u. named (names_in c half u) x) (sym e)
 
   -- a flop is what its next literal is in the cycle before
   flop_later : (half : Half) (t j : ℕ) → t < s.plan.cycles → j < L
@@ -189,30 +161,45 @@ module _ {c : Compared} (sizes : Sizes c) where
   flop_later Left t j l k = (rows_placed sizes []).of_left.flop_later t j (omega (arith, length_half sizes Left)) k
   flop_later Right t j l k = (rows_placed sizes []).of_right.flop_later t j (omega (arith, length_half sizes Right)) k
 
-  down : (half : Half) (t x j : ℕ) → suc t < s.plan.cycles → flop_of s x ≡ Some j
+  down : (half : Half) (t x j : ℕ) → suc t < s.plan.cycles → IsKind s.original (x / 2) (Flop j)
       → named (names_in c half t) (turned negated (x % 2) (next_at (runs c half t) j)) ≡ named (names_in c half (suc t)) x
-  down half t x j lt some =
+  down half t x j lt is =
       let Nets = names_in c half t in
-      let is = ap (λ (n : Net). named Nets (next_at n j)) (runs_is sizes half t (omega arith)) in
-      elim (names s x) [
-        | no-flop w none ↦ cc
-        | a-flop k l e is_k ↦
-            let same : k ≡ j = cc in
-            let held = ap (λ v. get_or (names_in c half (suc t)) v off) e ∙ net_flop half (suc t) lt k l ∙ flop_later half t k (omega arith) l in
-            named_turned (x % 2) Nets (next_at (runs c half t) j) ∙ ap (turned negated (x % 2)) (sym (rw same at held ∙ is))
-      ]
+      let by_side = ap (λ (n : Net). named Nets (next_at n j)) (runs_is sizes half t (omega arith)) in
+      let held = ap (λ v. get_or (names_in c half (suc t)) v off) is.1 ∙ net_flop half (suc t) lt j is.0 ∙ flop_later half t j (omega arith) is.0 in
+      named_turned (x % 2) Nets (next_at (runs c half t) j) ∙ ap (turned negated (x % 2)) (sym (held ∙ by_side))
 
   down_low : (half : Half) (t x j : ℕ) → OfCycle c half t (turned negated (x % 2) (next_at (runs c half t) j))
   down_low half t x j =
       let n = runs c half t in
       turned_low (x % 2) (next_at n j) (n.counts.inputs + n.counts.flops + n.counts.gates) (next_low n (on_bounded sizes (side_in s.plan half t)) j)
 
+-- of a comparison c that code holds as v
+module _ {v c : Compared} (is : v ≡ c) (original : Bounded v.original) (gated : Bounded v.gated) (are : AreSizes v.original.counts v.gated.counts v.fixed v.shape) where
+  sizes : Sizes c
+  sizes = subst Sizes is (record { original = original; gated = gated; are = are })
+
+  shape : v.shape ≡ c.shape
+  shape = ap (λ (w : Compared). w.shape) is
+
+  pub own_unless_flop : (half : Half) (t x : ℕ) → t < c.shape.plan.cycles → OfCycle c half t x
+      → (kind : NetKind) → IsKind v.shape.original (x / 2) kind → ((j : ℕ) → kind ≡ Flop j → ⊥)
+      → own_literal v.shape half t x ≡ named (names_in c half t) x
+  own_unless_flop half t x lt o kind k no_flop =
+      ap (λ s. own_literal s half t x) shape
+      ∙ own sizes half t lt x o kind (subst (λ (s : Shape). IsKind s.original (x / 2) kind) shape k) (λ j e. absurd (no_flop j e))
+
+  pub own_at_start : (half : Half) (t x : ℕ) → t ≡ 0 → OfCycle c half t x → own_literal v.shape half 0 x ≡ named (names_in c half t) x
+  own_at_start half t x e o =
+      ap₂ (λ s u. own_literal s half u x) shape (sym e) ∙ own_at_0 sizes half t (omega (arith, e, c.shape.in_time.some_cycle)) x o e
+
   -- one cycle down, from what a loop has that counts t
-  pub stepped : (half : Half) (t x j r : ℕ) → 0 < t → t < s.plan.cycles → flop_of s x ≡ Some j
+  pub stepped : (half : Half) (t x j r : ℕ) → 0 < t → t < c.shape.plan.cycles → IsKind v.shape.original (x / 2) (Flop j)
       → r ≡ turned negated (x % 2) (next_at (runs c half (t - 1)) j)
       → OfCycle c half (t - 1) r × (named (names_in c half (t - 1)) r ≡ named (names_in c half t) x)
-  stepped half t x j r h l f e =
-      let up : suc (t - 1) ≡ t = omega arith in (
-        subst (λ y. OfCycle c half (t - 1) y) (sym e) (down_low half (t - 1) x j),
-        ap (named (names_in c half (t - 1))) e ∙ down half (t - 1) x j (omega arith) f ∙ ap (λ u. named (names_in c half u) x) up,
+  stepped half t x j r h l k e =
+      let up : suc (t - 1) ≡ t = omega arith in
+      let flop = subst (λ (s : Shape). IsKind s.original (x / 2) (Flop j)) shape k in (
+        subst (λ y. OfCycle c half (t - 1) y) (sym e) (down_low sizes half (t - 1) x j),
+        ap (named (names_in c half (t - 1))) e ∙ down sizes half (t - 1) x j (omega arith) flop ∙ ap (λ u. named (names_in c half u) x) up,
       )

@@ -1,5 +1,5 @@
 -- The rows of a comparison: their circuits, and how many gates these have.
-use Rattle.std.proofs.Common.{◌≡◌, ℕ, zero, suc, ◌+◌, ◌-◌, ◌*◌, ◌<◌, ◌≤◌, min, ltb, List, [], ◌∷◌, ◌++◌, length, take, replicate, sym, refl, ap, ◌∙◌, subst, ap₂, ⊎_elim, arith}
+use Rattle.std.proofs.Common.{◌≡◌, ℕ, zero, suc, ◌+◌, ◌-◌, ◌*◌, ◌<◌, ◌≤◌, min, ltb, List, [], ◌∷◌, ◌++◌, length, take, replicate, sym, refl, ap, ◌∙◌, ap₂, ⊎_elim, arith}
 use lib.ListN.{length-replicate}
 use Rattle.std.specs.List.{AllByRecursion}
 use Rattle.std.proofs.lemmas.List.{get_or_append_left, get_or-append_right, get_or-replicate, take-replicate}
@@ -53,10 +53,6 @@ pub record Sizes (c : Compared) : Type 0 where
   pub original : Bounded c.original
   pub gated : Bounded c.gated
   pub are : AreSizes c.original.counts c.gated.counts c.fixed c.shape
-
--- from what a comparison holds
-pub sizes_of : {v c : Compared} → v ≡ c → Bounded v.original → Bounded v.gated → AreSizes v.original.counts v.gated.counts v.fixed v.shape → Sizes c
-sizes_of is original gated are = subst Sizes is (record { original = original; gated = gated; are = are })
 
 module _ {c : Compared} (sizes : Sizes c) where
   abbrev s : Shape

@@ -1,5 +1,5 @@
 -- The sizes of a comparison in numbers, as code sees them.
-use Rattle.std.specs.Prelude.{◌≡◌, ℕ, ◌+◌, ◌-◌, ◌*◌, ◌/◌, ◌%◌, ◌<◌, min, if◌then◌else◌, ◌&&◌, ◌⊎◌, List, length, Some, None, Option, MatchOption, ◌==◌, nat_le, nat_lt}
+use Rattle.std.specs.Prelude.{◌≡◌, ℕ, ◌+◌, ◌-◌, ◌*◌, ◌/◌, ◌%◌, ◌<◌, min, if◌then◌else◌, ◌⊎◌, List, length, Option, MatchOption, ◌==◌, nat_le}
 use Rattle.circuits.specs.declared.counts.Counts.{Counts}
 use Rattle.circuits.specs.declared.side.Side.{Side}
 use Rattle.circuits.specs.declared.side.Side.TheVariants.{Original, Gated}
@@ -85,12 +85,6 @@ module _ (s : Shape) where
 
   abbrev pub all_clauses : ℕ
   all_clauses = 2 + 3 * all_gates + 2 * all_differences + s.fixed
-
-  -- the flop that literal x names, if it names one
-  abbrev pub flop_of : ℕ → Option ℕ
-  flop_of x =
-      let I = s.original.inputs in
-      let net = x / 2 in if nat_lt I net && nat_le net (I + s.original.flops) then Some (net - (1 + I)) else None
 
   -- what literal x of cycle t is, unless it names a flop after cycle 0
   abbrev pub own_variable : Half → ℕ → ℕ → ℕ

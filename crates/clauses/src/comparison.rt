@@ -14,6 +14,7 @@ use crate::running::Running;
 use crate::shape::{Difference, Shape, Spot};
 use circuits::circuit::{Circuit, Gate};
 use circuits::counts::Counts;
+use circuits::kind::NetKind;
 use circuits::side::Side;
 use std::marker::Model;
 
@@ -93,7 +94,7 @@ impl<'a, O: Circuit, G: Circuit> Comparison<'a, O, G> {
         ensures { result ≡ naming (names_in self.now half cycle) x }
     {
         for t in (0..cycle).rev() {
-            let Some(flop) = self.shape.flop(x) else {
+            let NetKind::Flop(flop) = self.shape.original.kind(x / 2) else {
                 return self.shape.own_literal(half, t + 1, x);
             };
             x = inverted(self.running(half, t).next(flop), x % 2);

@@ -6,6 +6,7 @@ ghost use Rattle.clauses.specs.Plans.{InTime};
 use crate::part::{DifferencePart, GatePart};
 use crate::plan::{Half, Plan, Row};
 use circuits::counts::Counts;
+use circuits::kind::NetKind;
 use circuits::side::Side;
 
 // Which cycle, and which of its gates or outputs.
@@ -215,19 +216,6 @@ impl Shape {
         2 + 3 * self.gates() + 2 * self.differences() + self.fixed
     }
 
-    // The flop that a literal names, if it names one.
-    pub(crate) fn flop(self, x: u32) -> Option<u32>
-        ensures { result ≡ spec.flop_of self x }
-    {
-        let Counts { inputs, flops, .. } = self.original;
-        let net = x / 2;
-        if net > inputs && net <= inputs + flops {
-            Some(net - (1 + inputs))
-        } else {
-            None
-        }
-    }
-
     // What a literal of cycle t is among those of the clauses, unless it names a flop after cycle 0.
     pub(crate) fn own_literal(self, half: Half, t: u32, x: u32) -> u32
         requires early { t ≤ 8 }
@@ -235,16 +223,11 @@ impl Shape {
         ensures { result ≡ spec.own_literal self half t x }
     {
         let Counts { inputs, flops, .. } = self.original;
-        let net = x / 2;
-        let variable = if net == 0 {
-            1
-        } else if net <= inputs {
-            1 + flops + t * inputs + net
-        } else if net <= inputs + flops {
-            1 + net - inputs
-        } else {
-            let at = net - (1 + inputs + flops);
-            self.gate_variable(half, Spot { cycle: t, at })
+        let variable = match self.original.kind(x / 2) {
+            NetKind::False => 1,
+            NetKind::Input(input) => 2 + flops + t * inputs + input,
+            NetKind::Flop(flop) => 2 + flop,
+            NetKind::Gate(at) => self.gate_variable(half, Spot { cycle: t, at }),
         };
         2 * variable + x % 2
     }
