@@ -7,13 +7,20 @@ use Rattle.clauses.specs.declared.plan.Half.TheVariants.{Left, Right}
 use Rattle.clauses.specs.declared.plan.Row.{Row}
 use Rattle.clauses.specs.declared.shape.Shape.{Shape}
 use Rattle.circuits.specs.Sides.{other_side}
-use Rattle.clauses.specs.Plans.{half_row}
-use Rattle.clauses.specs.Shapes.{gates_on, gates_in, gates_in_row, Spots}
+use Rattle.clauses.specs.Plans.{half_row, side_at}
+use Rattle.clauses.specs.Shapes.{gates_on, gates_in_row, Spots}
 
 -- below a product, the factor is not zero
 factor : (g m k : ℕ) → g < m * k → 0 < k
 factor g m zero l = absurd (omega (arith, mul-zero m))
 factor g m (suc k) l = omega arith
+
+-- the circuit of a row before its turn, and from its turn on
+pub side_before : (r : Row) (t : ℕ) → t < r.turn → side_at r t ≡ r.front
+side_before r t l = cond-true (ltb t r.turn) r.front (other_side r.front) (lt-ltb t r.turn l)
+
+pub side_from : (r : Row) (t : ℕ) → r.turn ≤ t → side_at r t ≡ other_side r.front
+side_from r t l = cond-false (ltb t r.turn) r.front (other_side r.front) (le-ltb t r.turn l)
 
 pub turns : (s : Shape) (half : Half) → (half_row s.plan half).turn ≤ s.plan.cycles
 turns s Left = s.in_time.left_turns
@@ -40,12 +47,6 @@ module _ (s : Shape) (half : Half) where
   abbrev back : ℕ
   back = gates_on s (other_side r.front)
 
-  in_front : (t : ℕ) → t < r.turn → gates_in s half t ≡ front
-  in_front t l = ap (gates_on s) (cond-true (ltb t r.turn) r.front (other_side r.front) (lt-ltb t r.turn l))
-
-  in_back : (t : ℕ) → r.turn ≤ t → gates_in s half t ≡ back
-  in_back t l = ap (gates_on s) (cond-false (ltb t r.turn) r.front (other_side r.front) (le-ltb t r.turn l))
-
   -- gate g stands in a cycle before the turn, or after it
   pub spot_front : (g : ℕ) → g < r.turn * front → Spots s half g (record { cycle = g / front; at = g % front })
   spot_front g b =
@@ -54,7 +55,7 @@ module _ (s : Shape) (half : Half) where
       let turned = turns s half in
       record {
         in_row = omega arith;
-        in_cycle = subst (λ m. g % front < m) (sym (in_front (g / front) early)) (mod_below g front some);
+        in_cycle = subst (λ m. g % front < m) (ap (gates_on s) (sym (side_before r (g / front) early))) (mod_below g front some);
         is = ap (λ m. m + g % front) (before_turn front back r.turn (g / front) (omega arith)) ∙ div-add-mod' g front;
       }
 
@@ -73,6 +74,6 @@ module _ (s : Shape) (half : Half) where
       let parts = div-add-mod' rest back in
       record {
         in_row = omega arith;
-        in_cycle = subst (λ m. rest % back < m) (sym (in_back t (omega arith))) (mod_below rest back some);
+        in_cycle = subst (λ m. rest % back < m) (ap (gates_on s) (sym (side_from r t (omega arith)))) (mod_below rest back some);
         is = ap (λ m. m + rest % back) (from_turn front back r.turn t (omega arith)) ∙ omega arith;
       }

@@ -1,9 +1,9 @@
 -- The rows of a comparison: their circuits, and how many gates these have.
-use Rattle.std.proofs.Common.{◌≡◌, ℕ, zero, suc, ◌+◌, ◌-◌, ◌*◌, ◌<◌, ◌≤◌, min, ltb, List, [], ◌∷◌, ◌++◌, length, take, replicate, sym, refl, ap, ◌∙◌, ap₂, ⊎_elim, arith}
+use Rattle.std.proofs.Common.{◌≡◌, ℕ, zero, suc, ◌+◌, ◌-◌, ◌*◌, ◌<◌, ◌≤◌, min, List, [], ◌∷◌, ◌++◌, length, take, replicate, sym, refl, ap, ◌∙◌, ap₂, ⊎_elim, arith}
 use lib.ListN.{length-replicate}
 use Rattle.std.specs.List.{AllByRecursion}
 use Rattle.std.proofs.lemmas.List.{get_or_append_left, get_or-append_right, get_or-replicate, take-replicate}
-use Rattle.std.proofs.lemmas.Bool.{cases_lt, cond-true, cond-false, lt-ltb, le-ltb}
+use Rattle.std.proofs.lemmas.Bool.{cases_lt}
 use Rattle.circuits.specs.Held.{blank}
 use Rattle.circuits.specs.Net.{Net, Bounded}
 use Rattle.comparisons.specs.Clauses.{gate_count}
@@ -21,7 +21,7 @@ use Rattle.circuits.specs.Sides.{other_side}
 use Rattle.clauses.specs.Plans.{on, half_row, half_of}
 use Rattle.clauses.specs.Shapes.{AreSizes, gates_on, gates_before}
 use Rattle.clauses.specs.Asked.{Compared, runs}
-use Rattle.clauses.proofs.Gates.{turns}
+use Rattle.clauses.proofs.Gates.{side_before, side_from, turns}
 
 -- how many gates a row has by one circuit and then by another
 
@@ -119,11 +119,11 @@ module _ {c : Compared} (sizes : Sizes c) where
         (λ (e : t < r.turn).
         get_or_append_left (replicate r.turn x) (replicate (f - r.turn) y) blank t (omega arith)
         ∙ get_or-replicate r.turn t x blank e
-        ∙ ap (on c.original c.gated) (sym (cond-true (ltb t r.turn) r.front (other_side r.front) (lt-ltb t r.turn e))))
+        ∙ ap (on c.original c.gated) (sym (side_before r t e)))
         (λ (e : r.turn ≤ t).
         get_or-append_right (replicate r.turn x) (replicate (f - r.turn) y) r.turn t blank n e
         ∙ get_or-replicate (f - r.turn) (t - r.turn) y blank (omega arith)
-        ∙ ap (on c.original c.gated) (sym (cond-false (ltb t r.turn) r.front (other_side r.front) (le-ltb t r.turn e))))
+        ∙ ap (on c.original c.gated) (sym (side_from r t e)))
         (cases_lt t r.turn)
 
     all_in_half : (P : Net → Type 0) → ((d : Side) → P (on c.original c.gated d)) → AllByRecursion P (half_of c.original c.gated s.plan half)
