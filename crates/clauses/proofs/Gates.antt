@@ -59,9 +59,9 @@ module _ (s : Shape) (half : Half) where
         is = ap (λ m. m + g % front) (before_turn front back r.turn (g / front) (omega arith)) ∙ div-add-mod' g front;
       }
 
-  pub spot_back : (g : ℕ) → r.turn * front ≤ g → g < gates_in_row s half
+  back_spot : (g : ℕ) → r.turn * front ≤ g → g < gates_in_row s half
       → Spots s half g (record { cycle = r.turn + (g - r.turn * front) / back; at = (g - r.turn * front) % back })
-  spot_back g b h =
+  back_spot g b h =
       let rest = g - r.turn * front in
       let turned = turns s half in
       let whole = from_turn front back r.turn s.plan.cycles turned in
@@ -77,3 +77,8 @@ module _ (s : Shape) (half : Half) where
         in_cycle = subst (λ m. rest % back < m) (ap (gates_on s) (sym (side_from r t (omega arith)))) (mod_below rest back some);
         is = ap (λ m. m + rest % back) (from_turn front back r.turn t (omega arith)) ∙ omega arith;
       }
+
+  -- where there are so many gates in each cycle
+  pub spot_back : (fronts backs g : ℕ) → fronts ≡ front → backs ≡ back → r.turn * fronts ≤ g → g < gates_in_row s half
+      → Spots s half g (record { cycle = r.turn + (g - r.turn * fronts) / backs; at = (g - r.turn * fronts) % backs })
+  spot_back fronts backs g f k b h = rw (f, k) (back_spot g (rw f at b) h)

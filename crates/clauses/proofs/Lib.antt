@@ -1,3 +1,3 @@
-mod Gates
+pub mod Gates
 mod Rows
 mod Naming

@@ -33,11 +33,12 @@ module _ (c : Compared) where
   abbrev pub OfCycle : Half → ℕ → ℕ → Type 0
   OfCycle half t x = x ≤ top (runs half t).counts
 
-  -- the literals of its nets
+  -- the first variable of the gates of a row
   abbrev pub first_of : Half → ℕ
   first_of Left = left_gates c.shape.original.inputs c.shape.original.flops (left_of c.original c.gated c.shape.plan)
   first_of Right = right_gates c.shape.original.inputs c.shape.original.flops (left_of c.original c.gated c.shape.plan)
 
+  -- the literals of the nets of a cycle; folded, so that proofs compare them without computing them
   unfoldable pub names_in : Half → ℕ → List ℕ
   names_in half t =
       let I = c.shape.original.inputs in

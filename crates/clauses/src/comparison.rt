@@ -1,4 +1,4 @@
-// A comparison of two circuits of any kinds, whose clauses are answered by number and place. No list is built.
+// A comparison of two circuits of any kinds: the literals of its clauses about gates and about differences. No list is built.
 ghost use Rattle.std.specs.Prelude.{◌≡◌, ◌<◌, ◌≤◌, ◌↔◌, ◌&&◌, IsTrue, IsSome, IfSome, slice_index};
 ghost use Rattle.comparisons.specs.Clauses.{named as naming};
 ghost use Rattle.comparisons.specs.Opening as opening;
@@ -26,7 +26,7 @@ pub struct Comparison<'a, O: Circuit, G: Circuit> {
     fixed: Fixed,
 }
 
-// Clauses see what the circuits are. The sizes are theirs, and those of the start bits that are fixed.
+// Contracts see what the circuits are. The sizes are theirs, and those of the start bits that are fixed.
 impl<'a, O: Circuit, G: Circuit> Model for Comparison<'a, O, G> {
     ghost use Rattle.clauses.specs.Shapes.{AreSizes};
     ghost use Rattle.clauses.specs.Asked.{Compared};

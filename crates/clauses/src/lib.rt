@@ -1,4 +1,4 @@
-// The clauses of a comparison, answered by number and place; and which circuits, rules and depths can be compared at all.
+// A comparison of two circuits: the plans of each rule, what each clause is about, and the literals of clauses.
 #![tactic(auto)]
 
 pub mod comparison;

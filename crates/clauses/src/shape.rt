@@ -55,8 +55,9 @@ pub enum Place {
     Fixed(u32),
 }
 
+// The bounds below are the largest sums of what is most: 8 cycles, and in each circuit 256 inputs, flops and outputs, and 8,192 gates.
 impl Shape {
-    ghost use Rattle.std.specs.Prelude.{◌+◌, ◌*◌, ◌<◌};
+    ghost use Rattle.std.specs.Prelude.{◌+◌, ◌*◌, ◌^◌, ◌<◌};
     ghost use Rattle.clauses.specs.Shapes as spec;
 
     // How many gates the circuit of a side has.
@@ -90,6 +91,7 @@ impl Shape {
     }
 
     // Where gate g of a row stands.
+    #[tactic(auto, using(crate::proofs::Gates::spot_back))]
     fn spot(self, half: Half, g: u32) -> Spot
         requires { g < spec.gates_in_row self half }
         ensures { spec.Spots self half g result }
@@ -154,12 +156,12 @@ impl Shape {
         2 + self.original.flops + self.plan.cycles * self.original.inputs
     }
 
-    // The variable of a gate.
+    // The variable of a gate. No net is past the 8,704th, so neither is a gate. A literal is twice a variable, and has to fit in 32 bits.
     pub(crate) fn gate_variable(self, half: Half, spot: Spot) -> u32
         requires early { spot.cycle ≤ 8 }
         requires low { spot.at ≤ 8704 }
         ensures is { result ≡ spec.gate_variable self half spot }
-        ensures few { result ≤ 150000 }
+        ensures few { result < 2 ^ 31 }
     {
         let before = self.gates_before(half, spot.cycle);
         self.first_gate() + self.gates_ahead(half) + before + spot.at
@@ -185,7 +187,7 @@ impl Shape {
     pub(crate) fn difference_variable(self, difference: Difference) -> u32
         requires { spec.IsDifferenceOf self difference }
         ensures is { result ≡ spec.difference_variable self difference }
-        ensures few { result ≤ 150000 }
+        ensures few { result < 2 ^ 31 }
     {
         self.first_difference()
             + match difference {
@@ -217,6 +219,7 @@ impl Shape {
     }
 
     // What a literal of cycle t is among those of the clauses, unless it names a flop after cycle 0.
+    // The largest is the inverse of net 8,704.
     pub(crate) fn own_literal(self, half: Half, t: u32, x: u32) -> u32
         requires early { t ≤ 8 }
         requires low { x ≤ 17409 }

@@ -2,7 +2,8 @@
 ghost use Rattle.std.specs.Prelude.{◌≡◌, length, slice_index};
 ghost use Rattle.comparisons.specs.Clauses.{Formula, clause_at};
 
-// Clauses are known by their number, from 1, and literals by their place, from 0. Past the ends a clause has no literals, and a literal is 0.
+// Clauses are known by their number, from 1, and literals by their place, from 0. Past the ends a clause has no literals,
+// and a literal is 0.
 pub trait Clauses {
     // What the clauses are: one value, from which every answer is looked up.
     ghost formula: { Self → Formula };
