@@ -4,6 +4,7 @@ ghost use Rattle.aiger.specs.Lines as spec;
 ghost use Rattle.aiger.specs.Beside.{beside};
 
 use circuits::counts::Counts;
+use std::marker::Model;
 
 // Line 1: the last net, and the counts.
 #[derive(Clone, Copy)]
@@ -28,15 +29,23 @@ pub struct GateLine {
     pub right: u32,
 }
 
-// What is left to read of a text.
+// What is left to read of a text; contracts see its bytes.
 #[derive(Drop)]
 pub struct Lines<'a> {
     rest: &'a [u8],
 }
 
+impl<'a> Model for Lines<'a> {
+    ghost use Rattle.std.specs.Prelude.{ℕ, List};
+
+    ghost Value = { List ℕ };
+
+    ghost view = { λ lines. lines.rest.now };
+}
+
 impl<'a> Lines<'a> {
     pub(crate) fn new(text: &'a [u8]) -> Lines<'a>
-        ensures { result.rest.now ≡ text.now }
+        ensures { result ≡ text.now }
     {
         Lines { rest: text }
     }
@@ -44,8 +53,8 @@ impl<'a> Lines<'a> {
     // Takes the byte `b`.
     #[tactic(auto, using(crate::proofs::Fronts::byte_took))]
     fn byte(&mut self, b: u8) -> Option<()>
-        ensures took { beside self.new.rest.now result ≡ spec.byte b self.old.rest.now }
-        ensures left { result ≡ None → self.new.rest.now ≡ self.old.rest.now }
+        ensures took { beside self.new result ≡ spec.byte b self.old }
+        ensures left { result ≡ None → self.new ≡ self.old }
     {
         match self.rest {
             [first, rest @ ..] if *first == b => {
@@ -59,8 +68,8 @@ impl<'a> Lines<'a> {
     // Takes a digit.
     #[tactic(auto, using(crate::proofs::Fronts::digit_took))]
     fn digit(&mut self) -> Option<u32>
-        ensures took { beside self.new.rest.now result ≡ spec.digit self.old.rest.now }
-        ensures left { result ≡ None → self.new.rest.now ≡ self.old.rest.now }
+        ensures took { beside self.new result ≡ spec.digit self.old }
+        ensures left { result ≡ None → self.new ≡ self.old }
     {
         match self.rest {
             [digit @ b'0'..=b'9', rest @ ..] => {
@@ -73,7 +82,7 @@ impl<'a> Lines<'a> {
 
     // Takes a number: 0, or digits of which the first is not 0, below 2^32.
     fn numeral(&mut self) -> Option<u32>
-        ensures { beside self.new.rest.now result ≡ spec.numeral self.old.rest.now }
+        ensures { beside self.new result ≡ spec.numeral self.old }
     {
         let mut n = self.digit()?;
         if n == 0 {
@@ -87,7 +96,7 @@ impl<'a> Lines<'a> {
 
     // Takes a space and a number.
     fn field(&mut self) -> Option<u32>
-        ensures { beside self.new.rest.now result ≡ spec.field self.old.rest.now }
+        ensures { beside self.new result ≡ spec.field self.old }
     {
         self.byte(b' ')?;
         self.numeral()
@@ -95,7 +104,7 @@ impl<'a> Lines<'a> {
 
     // Takes a line of one number.
     pub(crate) fn single(&mut self) -> Option<u32>
-        ensures { beside self.new.rest.now result ≡ spec.single self.old.rest.now }
+        ensures { beside self.new result ≡ spec.single self.old }
     {
         let n = self.numeral()?;
         self.byte(b'\n')?;
@@ -104,7 +113,7 @@ impl<'a> Lines<'a> {
 
     // Takes a gate's line.
     pub(crate) fn gate(&mut self) -> Option<GateLine>
-        ensures { beside self.new.rest.now result ≡ spec.gate self.old.rest.now }
+        ensures { beside self.new result ≡ spec.gate self.old }
     {
         let own = self.numeral()?;
         let left = self.field()?;
@@ -115,7 +124,7 @@ impl<'a> Lines<'a> {
 
     // Takes the end of a flop's line, and the number before it, if there is one.
     fn third(&mut self) -> Option<Option<u32>>
-        ensures { beside self.new.rest.now result ≡ spec.third self.old.rest.now }
+        ensures { beside self.new result ≡ spec.third self.old }
     {
         if self.byte(b'\n').is_some() {
             return Some(None);
@@ -127,7 +136,7 @@ impl<'a> Lines<'a> {
 
     // Takes a flop's line.
     pub(crate) fn flop(&mut self) -> Option<FlopLine>
-        ensures { beside self.new.rest.now result ≡ spec.flop self.old.rest.now }
+        ensures { beside self.new result ≡ spec.flop self.old }
     {
         let own = self.numeral()?;
         let next = self.field()?;
@@ -137,7 +146,7 @@ impl<'a> Lines<'a> {
 
     // Takes line 1, `aag M I L O A`.
     pub(crate) fn header(&mut self) -> Option<Header>
-        ensures { beside self.new.rest.now result ≡ spec.header self.old.rest.now }
+        ensures { beside self.new result ≡ spec.header self.old }
     {
         self.byte(b'a')?;
         self.byte(b'a')?;

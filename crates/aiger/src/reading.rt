@@ -22,8 +22,8 @@ fn counts_fit(header: &Header) -> bool
 }
 
 fn header_line(lines: &mut Lines, lent: usize) -> Result<Sizes, ReadFault>
-    ensures line { as_words (λ sizes. sizes.counts) (beside_result lines.new.rest.now result)
-        ≡ as_words (λ header. header.counts) (spec.header_line lent lines.old.rest.now) }
+    ensures line { as_words (λ sizes. sizes.counts) (beside_result lines.new result)
+        ≡ as_words (λ header. header.counts) (spec.header_line lent lines.old) }
     ensures fits { IfOk result (λ sizes. room sizes.counts ≤ lent) }
 {
     let header = lines.header().ok_or(Refusal::MalformedHeader.at(1))?;
@@ -43,8 +43,8 @@ fn header_line(lines: &mut Lines, lent: usize) -> Result<Sizes, ReadFault>
 #[tactic(auto, using(crate::proofs::Sections::section_words))]
 fn sections(lines: &mut Lines, sizes: Sizes, words: &mut [u32]) -> Result<(), ReadFault>
     requires { room sizes.counts ≤ length words.old }
-    ensures front { holding (take (room sizes.counts) words.new) lines.new.rest.now result
-        ≡ as_words layout (spec.sections sizes.counts lines.old.rest.now) }
+    ensures front { holding (take (room sizes.counts) words.new) lines.new result
+        ≡ as_words layout (spec.sections sizes.counts lines.old) }
     ensures later { OnOk result
         (drop (room sizes.counts) words.new ≡ drop (room sizes.counts) words.old) }
 {

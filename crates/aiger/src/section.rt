@@ -35,8 +35,8 @@ pub(crate) trait Section {
 
     fn read(lines: &mut Lines, sizes: Sizes, i: u32) -> Result<Self::Line, ReadFault>
         requires { i < count_of sizes.counts }
-        ensures { beside_result lines.new.rest.now result
-            ≡ line_read sizes.counts i lines.old.rest.now };
+        ensures { beside_result lines.new result
+            ≡ line_read sizes.counts i lines.old };
 
     fn write(line: Self::Line, words: &mut [u32], count: usize, i: usize)
         requires counted { i < count }
@@ -54,10 +54,10 @@ pub(crate) fn read_section<S: Section>(
 ) -> Result<(), ReadFault>
     requires writes_words { WritesWords S.line_written S.room_of S.words_of }
     requires fits { length words.old ≡ S.room_of (S.count_of sizes.counts) }
-    ensures { holding words.new lines.new.rest.now result
+    ensures { holding words.new lines.new result
         ≡ as_words S.words_of
         (each (S.line_read sizes.counts) (range_with_len 0 (S.count_of sizes.counts))
-        lines.old.rest.now) }
+        lines.old) }
 {
     let count = S::count(sizes.counts) as usize;
     for i in 0..count {
