@@ -52,7 +52,7 @@ impl Section for Flops {
     fn read(lines: &mut Lines, sizes: Sizes, j: u32) -> Result<FlopLine, ReadFault> {
         let counts = sizes.counts;
         let line = 2 + counts.inputs + j;
-        let own = 2 * (1 + counts.inputs + j);
+        let own = sizes.flop_literal(j);
         let flop = lines.flop().ok_or(Refusal::MalformedLine.at(line))?;
         if flop.own != own {
             return Err(Refusal::WrongLiteral.at(line));

@@ -32,7 +32,7 @@ impl Section for Gates {
     fn read(lines: &mut Lines, sizes: Sizes, i: u32) -> Result<GateLine, ReadFault> {
         let counts = sizes.counts;
         let line = 2 + counts.inputs + counts.flops + counts.outputs + i;
-        let own = 2 * (1 + counts.inputs + counts.flops + i);
+        let own = sizes.gate_literal(i);
         let gate = lines.gate().ok_or(Refusal::MalformedLine.at(line))?;
         if gate.own != own {
             return Err(Refusal::WrongLiteral.at(line));

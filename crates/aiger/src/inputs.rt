@@ -30,7 +30,7 @@ impl Section for Inputs {
     fn read(lines: &mut Lines, sizes: Sizes, i: u32) -> Result<u32, ReadFault> {
         let line = 2 + i;
         let literal = lines.single().ok_or(Refusal::MalformedLine.at(line))?;
-        if literal != 2 * (1 + i) {
+        if literal != sizes.input_literal(i) {
             return Err(Refusal::WrongLiteral.at(line));
         }
         Ok(literal)
