@@ -124,7 +124,7 @@ sections_back : (net : Net) (bare : ℕ → Bool) → Bounded net → (t : List 
     ++ (flat_map (output_text net) (range_with_len 0 net.counts.outputs) ++ (flat_map (gate_text net) (range_with_len 0 net.counts.gates) ++ t)))) ≡ Ok (net, t)
 sections_back net bare b t =
     let k = b.counts_in in
-    sections_read net.counts _ _ _ _ _ _ _ _ _
+    sections_read net.counts _ _ _ _ _ _ _ _
     (each_written input_line input_text input_literal 0 net.counts.inputs (λ i l h u. input_back i (omega arith) u) _)
     (each_written (flop_line net.counts) (flop_text net bare) (flop_item net bare) 0 net.counts.flops (λ j l h u. flop_back net bare b j (omega arith) u) _)
     (each_written (output_line net.counts) (output_text net) (out_at net) 0 net.counts.outputs (λ j l h u. output_back net b j (omega arith) u) _)

@@ -69,22 +69,12 @@ words_ok {X = X} {S = S} f (Ok p) s u h =
     let l : p.1 ≡ u = ap (λ (x : S × List ℕ). x.1) q in
     (p.0, (ap (λ (v : List ℕ). Ok (p.0, v)) l, ap (λ (x : S × List ℕ). x.0) q))
 
-words_err : {X S : Type 0} (f : X → S) (r : Result (X × List ℕ) ReadFault) (e : ReadFault) → Err e ≡ as_words f r → r ≡ Err e
-words_err f (Err d) e h = cc
-words_err f (Ok p) e h = absurd (cc)
-
--- the sections one after the other
-pub sections_read : (c : Counts) (t t₁ t₂ t₃ t₄ is os : List ℕ) (fs : List FlopLine) (gs : List GateLine)
+-- the sections one after the other, up to what the gates are read as
+pub sections_read : (c : Counts) (t t₁ t₂ t₃ is os : List ℕ) (fs : List FlopLine) (gates : Result (List GateLine × List ℕ) ReadFault)
     → each input_line (range_with_len 0 c.inputs) t ≡ Ok (is, t₁) → each (flop_line c) (range_with_len 0 c.flops) t₁ ≡ Ok (fs, t₂)
-    → each (output_line c) (range_with_len 0 c.outputs) t₂ ≡ Ok (os, t₃) → each (gate_line c) (range_with_len 0 c.gates) t₃ ≡ Ok (gs, t₄)
-    → sections c t ≡ Ok (net_of c fs os gs, t₄)
-sections_read c t t₁ t₂ t₃ t₄ is os fs gs a b d e = rw (a, b, d, e) refl
-
-sections_refused : (c : Counts) (t t₁ t₂ t₃ is os : List ℕ) (fs : List FlopLine) (f : ReadFault)
-    → each input_line (range_with_len 0 c.inputs) t ≡ Ok (is, t₁) → each (flop_line c) (range_with_len 0 c.flops) t₁ ≡ Ok (fs, t₂)
-    → each (output_line c) (range_with_len 0 c.outputs) t₂ ≡ Ok (os, t₃) → each (gate_line c) (range_with_len 0 c.gates) t₃ ≡ Err f
-    → sections c t ≡ Err f
-sections_refused c t t₁ t₂ t₃ is os fs f a b d e = rw (a, b, d, e) refl
+    → each (output_line c) (range_with_len 0 c.outputs) t₂ ≡ Ok (os, t₃) → each (gate_line c) (range_with_len 0 c.gates) t₃ ≡ gates
+    → sections c t ≡ onward gates (λ gs u. Ok (net_of c fs os gs, u))
+sections_read c t t₁ t₂ t₃ is os fs gates a b d e = rw (a, b, d, e) refl
 
 pub sections_end : (c : Counts) (t t₁ t₂ t₃ t₄ ws iw fw ow gw : List ℕ) (r : Result (Unit {0}) ReadFault)
     → Ok (iw, t₁) ≡ as_words (λ _. []) (each input_line (range_with_len 0 c.inputs) t)
@@ -97,24 +87,22 @@ sections_end c t t₁ t₂ t₃ t₄ ws iw fw ow gw r a b d e w =
     let i = words_ok (λ _. []) (each input_line (range_with_len 0 c.inputs) t) iw t₁ a in
     let f = words_ok (λ fs. nexts_of fs ++ pins_of fs) (each (flop_line c) (range_with_len 0 c.flops) t₁) fw t₂ b in
     let o = words_ok (λ os. os) (each (output_line c) (range_with_len 0 c.outputs) t₂) ow t₃ d in
-    at i.0 o.0 f.0 i.1.0 f.1.0 o.1.0 f.1.1 o.1.1 r e
+    let g = each (gate_line c) (range_with_len 0 c.gates) t₃ in
+    last f.0 o.0 f.1.1 o.1.1 g r e ∙ sym (ap (as_words layout) (sections_read c t t₁ t₂ t₃ i.0 o.0 f.0 g i.1.0 f.1.0 o.1.0 refl))
   where
-    at : (is os : List ℕ) (fs : List FlopLine)
-        → each input_line (range_with_len 0 c.inputs) t ≡ Ok (is, t₁) → each (flop_line c) (range_with_len 0 c.flops) t₁ ≡ Ok (fs, t₂)
-        → each (output_line c) (range_with_len 0 c.outputs) t₂ ≡ Ok (os, t₃)
-        → nexts_of fs ++ pins_of fs ≡ fw → os ≡ ow
-        → (r : Result (Unit {0}) ReadFault)
-        → holding gw t₄ r ≡ as_words (λ gs. operand_words (operands_of gs)) (each (gate_line c) (range_with_len 0 c.gates) t₃)
-        → holding ws t₄ r ≡ as_words layout (sections c t)
-    at is os fs i f o x y (Ok u) e =
-        let g = words_ok (λ gs. operand_words (operands_of gs)) (each (gate_line c) (range_with_len 0 c.gates) t₃) gw t₄ e in
-        let v = g.1.1 in
+    last : (fs : List FlopLine) (os : List ℕ) → nexts_of fs ++ pins_of fs ≡ fw → os ≡ ow
+        → (g : Result (List GateLine × List ℕ) ReadFault) (r : Result (Unit {0}) ReadFault)
+        → holding gw t₄ r ≡ as_words (λ gs. operand_words (operands_of gs)) g
+        → holding ws t₄ r ≡ as_words layout (onward g (λ gs u. Ok (net_of c fs os gs, u)))
+    last fs os x y (Ok p) (Ok u) e =
+        let q : ◌≡◌ {A = List ℕ × List ℕ} (gw, t₄) (operand_words (operands_of p.0), p.1) = cc in
+        let v = ap (λ (m : List ℕ × List ℕ). m.0) q in
         let z = append_assoc (nexts_of fs) (pins_of fs) os in
-        let q : ws ≡ layout (net_of c fs os g.0) = cc in
-        ap (λ (y : List ℕ). Ok (y, t₄)) q ∙ sym (ap (as_words layout) (sections_read c t t₁ t₂ t₃ t₄ is os fs g.0 i f o g.1.0))
-    at is os fs i f o x y (Err u) e =
-        let g = words_err (λ gs. operand_words (operands_of gs)) (each (gate_line c) (range_with_len 0 c.gates) t₃) u e in
-        sym (ap (as_words layout) (sections_refused c t t₁ t₂ t₃ is os fs u i f o g))
+        let n : ws ≡ layout (net_of c fs os p.0) = cc in
+        λ k. Ok (n k, (q k).1)
+    last fs os x y (Ok p) (Err f) e = absurd (cc)
+    last fs os x y (Err f) (Ok u) e = absurd (cc)
+    last fs os x y (Err f) (Err h) e = e
 
 pub on_ok : {X F P : Type 0} (r : Result X F) → P → OnOk r P
 on_ok (Ok x) p = p
