@@ -1,6 +1,6 @@
 -- Which line brings on which refusal.
 use Rattle.std.proofs.Common.{◌≡◌, ℕ, zero, suc, ◌+◌, ◌<◌, ◌≤◌, true, false, List, [], ◌∷◌, Some, None, Ok, Err, Option, Result, refl, subst, arith}
-use Rattle.std.specs.List.{range_with_len}
+use Rattle.std.specs.List.{range_with_len, AllByRecursion}
 use Rattle.std.proofs.lemmas.Bool.{ltb-true, not-false}
 use Rattle.circuits.specs.declared.counts.Counts.{Counts}
 use Rattle.aiger.specs.declared.fault.Refusal.{Refusal}
@@ -10,7 +10,7 @@ use Rattle.aiger.specs.Lines.{header, single, flop, gate}
 use Rattle.circuits.specs.Net.{BoundedCounts, room}
 use Rattle.aiger.specs.Reading.{judged, refused, onward, each, header_line, input_line, flop_line, output_line, gate_line, sections, reading}
 use Rattle.circuits.specs.Checks.{Check, first_due}
-use Rattle.aiger.specs.Laws.{Placed}
+use Rattle.aiger.specs.Laws.{Placed, last_line}
 use Rattle.aiger.proofs.Accepted.{header_accepted}
 use Rattle.aiger.proofs.Checks.{counts_fit_parts}
 
@@ -64,37 +64,33 @@ header_placed lent t f e =
       )),
     ))
 
-input_placed : (lent i : ℕ) → i < 256 → (t : List ℕ) (f : ReadFault) → input_line i t ≡ Err f → Placed lent f
-input_placed lent i l t f e =
-    judged_refused (Placed lent) (2 + i) MalformedLine (single t) _ f e (omega arith, omega arith) (λ x. ((λ _. (omega arith, omega arith)), (λ _. tt)))
+-- a refusal that line k may bring on if it is one of those after the first
+abbrev OfLater : ℕ → ℕ → Refusal → Type 0
+OfLater lent k r = (2 ≤ k) × (k ≤ last_line) → Placed lent (record { refusal = r; line = k })
 
-flop_placed : (lent : ℕ) (c : Counts) → BoundedCounts c → (j : ℕ) → j < 256 → (t : List ℕ) (f : ReadFault) → flop_line c j t ≡ Err f → Placed lent f
-flop_placed lent c b j l t f e =
-    let place : (2 ≤ 2 + c.inputs + j) × (2 + c.inputs + j ≤ 8961) = (omega arith, omega arith) in
-    judged_refused (Placed lent) (2 + c.inputs + j) MalformedLine (flop t) _ f e place
-    (λ x. ((λ _. place), (λ _. ((λ _. place), (λ _. ((λ _. place), (λ _. tt)))))))
-
-output_placed : (lent : ℕ) (c : Counts) → BoundedCounts c → (j : ℕ) → j < 256 → (t : List ℕ) (f : ReadFault) → output_line c j t ≡ Err f → Placed lent f
-output_placed lent c b j l t f e =
-    let place : (2 ≤ 2 + c.inputs + c.flops + j) × (2 + c.inputs + c.flops + j ≤ 8961) = (omega arith, omega arith) in
-    judged_refused (Placed lent) (2 + c.inputs + c.flops + j) MalformedLine (single t) _ f e place (λ x. ((λ _. place), (λ _. tt)))
-
-gate_placed : (lent : ℕ) (c : Counts) → BoundedCounts c → (i : ℕ) → i < 8192 → (t : List ℕ) (f : ReadFault) → gate_line c i t ≡ Err f → Placed lent f
-gate_placed lent c b i l t f e =
-    let k = 2 + c.inputs + c.flops + c.outputs + i in
-    let place : (2 ≤ k) × (k ≤ 8961) = (omega arith, omega arith) in
-    judged_refused (Placed lent) k MalformedLine (gate t) _ f e place (λ x. ((λ _. place), (λ _. ((λ _. place), (λ _. tt)))))
+line_placed : {X : Type 0} (lent k : ℕ) (o : Option (X × List ℕ)) (checks : X → List (Check Refusal)) → (2 ≤ k) × (k ≤ last_line)
+    → ((x : X) → AllByRecursion (λ c. OfLater lent k c.0) (checks x)) → (f : ReadFault) → judged k MalformedLine o checks ≡ Err f → Placed lent f
+line_placed lent k o checks place h f e = judged_refused (Placed lent) k MalformedLine o checks f e place (λ x. told (checks x) (h x))
+  where
+    told : (cs : List (Check Refusal)) → AllByRecursion (λ c. OfLater lent k c.0) cs → ToldBy (λ r. Placed lent (record { refusal = r; line = k })) cs
+    told [] h = tt
+    told (c ∷ cs) h = ((λ _. h.0 place), (λ _. told cs h.1))
 
 sections_placed : (lent : ℕ) (c : Counts) → BoundedCounts c → (t : List ℕ) (f : ReadFault) → sections c t ≡ Err f → Placed lent f
 sections_placed lent c b t f e =
-    onward_refused (Placed lent) (each input_line (range_with_len 0 c.inputs) t) _ f e
-    (each_refused (Placed lent) input_line 0 c.inputs (λ i l m. input_placed lent i (omega arith)) t)
-    (λ _ u _ e₁. onward_refused (Placed lent) (each (flop_line c) (range_with_len 0 c.flops) u) _ f e₁
-    (each_refused (Placed lent) (flop_line c) 0 c.flops (λ j l m. flop_placed lent c b j (omega arith)) u)
-    (λ fs v _ e₂. onward_refused (Placed lent) (each (output_line c) (range_with_len 0 c.outputs) v) _ f e₂
-    (each_refused (Placed lent) (output_line c) 0 c.outputs (λ j l m. output_placed lent c b j (omega arith)) v)
-    (λ os w _ e₃. onward_refused (Placed lent) (each (gate_line c) (range_with_len 0 c.gates) w) _ f e₃
-    (each_refused (Placed lent) (gate_line c) 0 c.gates (λ i l m. gate_placed lent c b i (omega arith)) w)
+    let P = Placed lent in
+    let inputs = each_refused P input_line 0 c.inputs (λ i l m u.
+    line_placed lent (2 + i) (single u) _ (omega arith, omega arith) (λ x. ((λ p. p), tt))) in
+    let flops = each_refused P (flop_line c) 0 c.flops (λ j l m u.
+    line_placed lent (2 + c.inputs + j) (flop u) _ (omega arith, omega arith) (λ x. ((λ p. p), ((λ p. p), ((λ p. p), tt))))) in
+    let outputs = each_refused P (output_line c) 0 c.outputs (λ j l m u.
+    line_placed lent (2 + c.inputs + c.flops + j) (single u) _ (omega arith, omega arith) (λ x. ((λ p. p), tt))) in
+    let gates = each_refused P (gate_line c) 0 c.gates (λ i l m u.
+    line_placed lent (2 + c.inputs + c.flops + c.outputs + i) (gate u) _ (omega arith, omega arith) (λ x. ((λ p. p), ((λ p. p), tt)))) in
+    onward_refused P (each input_line (range_with_len 0 c.inputs) t) _ f e (inputs t)
+    (λ _ u _ e₁. onward_refused P (each (flop_line c) (range_with_len 0 c.flops) u) _ f e₁ (flops u)
+    (λ fs v _ e₂. onward_refused P (each (output_line c) (range_with_len 0 c.outputs) v) _ f e₂ (outputs v)
+    (λ os w _ e₃. onward_refused P (each (gate_line c) (range_with_len 0 c.gates) w) _ f e₃ (gates w)
     (λ gs x _ e₄. absurd (cc)))))
 
 pub placed : (lent : ℕ) (t : List ℕ) (f : ReadFault) → reading lent t ≡ Err f → Placed lent f
