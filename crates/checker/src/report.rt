@@ -46,14 +46,6 @@ fn netlist_words(heap: Global) -> Result<Vec<u32>, AllocError>
     vec![in heap; 0; MOST_WORDS]
 }
 
-// What is told of a netlist, read into words of its own, or why it is refused.
-fn summary_of(heap: Global, text: &[u8]) -> Result<Result<Summary, ReadFault>, AllocError>
-    ensures { IfOk result (λ told. told ≡ summed (reading most_words text.now)) }
-{
-    let mut words = netlist_words(heap)?;
-    Ok(Summary::of_text(text, &mut words))
-}
-
 impl Report {
     // What is told of two readings, of the original first.
     fn of_answers(original: Result<Summary, ReadFault>, gated: Result<Summary, ReadFault>) -> Report
@@ -66,6 +58,18 @@ impl Report {
         }
     }
 
+    // Reads the two netlists, each into the same lent words.
+    fn of_texts(texts: Texts, words: &mut [u32]) -> Report
+        ensures report { result ≡ spec.of_answers (summed (reading (length words.old) texts.entry.original.now))
+            (summed (reading (length words.old) texts.entry.gated.now)) }
+        ensures after { words.new ≡ words_after (reading (length words.old) texts.entry.gated.now)
+            (words_after (reading (length words.old) texts.entry.original.now) words.old) }
+    {
+        let original = Summary::of_text(texts.original, words);
+        let gated = Summary::of_text(texts.gated, words);
+        Report::of_answers(original, gated)
+    }
+
     // Reads the two netlists of a folder.
     pub fn of(heap: Global, texts: Texts) -> Result<Report, AllocError>
         ensures { IfOk result (λ x. x ≡ spec.report texts.entry.original.now texts.entry.gated.now) }
@@ -73,9 +77,8 @@ impl Report {
         if texts.too_long() {
             return Ok(Report::TooLong);
         }
-        let original = summary_of(heap, texts.original)?;
-        let gated = summary_of(heap, texts.gated)?;
-        Ok(Report::of_answers(original, gated))
+        let mut words = netlist_words(heap)?;
+        Ok(Report::of_texts(texts, &mut words))
     }
 
     pub fn both_read(&self) -> bool

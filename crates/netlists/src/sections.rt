@@ -1,5 +1,5 @@
 // Lent words, cut into the parts of a circuit.
-ghost use Rattle.std.specs.Prelude.{◌↔◌, ◌≡◌, ◌≤◌, length, IsTrue, IfSome, IfNone, All};
+ghost use Rattle.std.specs.Prelude.{◌≡◌, ◌<◌, ◌≤◌, length, slice_index, Decides, IfSome, IfNone, All};
 ghost use Rattle.circuits.specs.Net.{Bounded};
 ghost use Rattle.circuits.specs.Held.{Holds, net_in};
 ghost use Rattle.netlists.specs.Plain.{SomeHeld};
@@ -22,9 +22,17 @@ pub struct Sections<'a> {
 
 // Whether no word of a row is above the limit.
 fn at_most(row: &[u32], limit: u64) -> bool
-    ensures { IsTrue result ↔ All (λ x. x ≤ limit) row.now }
+    ensures { Decides result (All (λ x. x ≤ limit) row.now) }
 {
-    row.iter().all(|word| *word as u64 <= limit)
+    row.iter().all(|word| u64::from(*word) <= limit)
+}
+
+// Whether both words of a pair are below the limit.
+fn both_below(pair: &[u32; 2], limit: u64) -> bool
+    ensures { Decides result ((slice_index pair.now 0 < limit) × (slice_index pair.now 1 < limit)) }
+{
+    let [left, right] = *pair;
+    u64::from(left) < limit && u64::from(right) < limit
 }
 
 impl<'a> Sections<'a> {
@@ -56,18 +64,16 @@ impl<'a> Sections<'a> {
 
     // Whether the operands of each gate are below its own literal.
     fn operands_low(&self) -> bool
-        ensures { IsTrue result ↔ OperandsLow (net_of self.now) }
+        ensures { Decides result (OperandsLow (net_of self.now)) }
     {
-        let first = 2 * (1 + self.counts.inputs as u64 + self.counts.flops as u64);
-        self.operands.iter().enumerate().all(|(i, [left, right])| {
-            let own = first + 2 * i as u64;
-            (*left as u64) < own && (*right as u64) < own
-        })
+        let first = 2 * (1 + u64::from(self.counts.inputs) + u64::from(self.counts.flops));
+        let mut pairs = self.operands.iter().enumerate();
+        pairs.all(|(i, pair)| both_below(pair, first + 2 * i as u64))
     }
 
     // Whether the words keep all bounds on a circuit.
     pub fn keep_bounds(&self) -> bool
-        ensures { IsTrue result ↔ Bounded (net_of self.now) }
+        ensures { Decides result (Bounded (net_of self.now)) }
     {
         let top = self.counts.largest_literal();
         self.counts.in_bounds()

@@ -23,29 +23,12 @@ fn parse_flop(text: &str) -> anyhow::Result<u32> {
     Ok(text.parse::<u32>()?)
 }
 
-// The words of a text, each taken by `parse`.
-fn parse_words<T: Drop, F: Fn(&str) -> anyhow::Result<T>>(
-    heap: Global,
-    text: &str,
-    parse: F,
-) -> anyhow::Result<Vec<T>>
-    requires { F.IsAlwaysCallable parse }
-{
-    let mut items = Vec::new(heap);
-    for word in text.split_whitespace() {
-        items.push(parse(word)?)?;
-    }
-    Ok(items)
-}
-
 pub(crate) fn parse_layer(heap: Global, text: &str) -> anyhow::Result<Layer> {
-    let (kind, rest) = match text.split_once(' ') {
-        Some(parts) => parts,
-        None => (text, ""),
-    };
+    let (kind, rest) = text.split_once(' ').unwrap_or((text, ""));
+    let words = rest.split_whitespace();
     match kind {
-        "pad" => Ok(Layer::Pad(parse_words(heap, rest, parse_dummy)?)),
-        "match" => Ok(Layer::Match(parse_words(heap, rest, parse_flop)?)),
+        "pad" => Ok(Layer::Pad(words.map(parse_dummy).try_collect(heap)?)),
+        "match" => Ok(Layer::Match(words.map(parse_flop).try_collect(heap)?)),
         _ => Err(anyhow!("a layer that is neither pad nor match")),
     }
 }

@@ -22,7 +22,7 @@ fn operands<C: Circuit>(circuit: &C, i: u32) -> Pair {
 }
 
 // The next literal of flop j, and the word of its pin.
-fn flop<C: Circuit>(circuit: &C, j: u32) -> Pair {
+fn next_and_pin<C: Circuit>(circuit: &C, j: u32) -> Pair {
     Pair(circuit.next(j), circuit.pin(j).into())
 }
 
@@ -48,10 +48,10 @@ pub(crate) fn tell<C: Circuit>(rt: &HostRuntime, circuit: &C) -> anyhow::Result<
     let counts = circuit.counts();
     print!(rt; "{counts}")?;
     tell_first(rt, "gates", counts.gates, |i| operands(circuit, i))?;
-    tell_first(rt, "flops", counts.flops, |j| flop(circuit, j))?;
+    tell_first(rt, "flops", counts.flops, |j| next_and_pin(circuit, j))?;
     tell_first(rt, "outs", counts.outputs, |j| circuit.out(j))?;
     let gate = operands(circuit, counts.gates);
-    let flop = flop(circuit, counts.flops);
+    let flop = next_and_pin(circuit, counts.flops);
     let out = circuit.out(counts.outputs);
     println!(rt; ", past {gate} {flop} {out}")?;
     Ok(())
