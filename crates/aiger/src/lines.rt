@@ -7,14 +7,14 @@ use circuits::counts::Counts;
 use std::marker::Model;
 
 // Line 1: the last net, and the counts.
-#[derive(Clone, Copy)]
+#[derive(Clone, Copy, Debug, PartialEq, Eq)]
 pub struct Header {
     pub last: u32,
     pub counts: Counts,
 }
 
 // A flop's line: its own literal, its next literal, and a third number or none.
-#[derive(Clone, Copy)]
+#[derive(Clone, Copy, Debug, PartialEq, Eq)]
 pub struct FlopLine {
     pub own: u32,
     pub next: u32,
@@ -22,7 +22,7 @@ pub struct FlopLine {
 }
 
 // A gate's line: its own literal and its two operands.
-#[derive(Clone, Copy)]
+#[derive(Clone, Copy, Debug, PartialEq, Eq)]
 pub struct GateLine {
     pub own: u32,
     pub left: u32,

@@ -14,11 +14,6 @@ use Rattle.circuits.proofs.Nets.{same_net}
 pub bounded_once : (n : Net) → IsProp (Bounded n)
 bounded_once n = Prim.hlevel props
 
--- a list that is made by place is any list with the same elements
-pub made_is : {X : Type 0} (f : ℕ → X) (n : ℕ) (xs : List X) (d : X) → length xs ≡ n → ((k : ℕ) → k < n → f k ≡ get_or xs k d)
-    → map f (range_with_len 0 n) ≡ xs
-made_is f n xs d e h = sym (fill_by_all f xs n d e (λ k l. sym (h k l)))
-
 -- the operands of gate i stand in words 2i and 2i + 1
 pair_words : (gs : List (ℕ × ℕ)) (later : List ℕ) (i : ℕ) → i < length gs
     → (get_or (operand_words gs ++ later) (2 * i) 0, get_or (operand_words gs ++ later) (2 * i + 1) 0) ≡ get_or gs i (0, 0)

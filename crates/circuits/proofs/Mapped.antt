@@ -1,7 +1,6 @@
 -- Lists under a map, and what is read from a list at any place.
-use Rattle.std.proofs.Common.{◌≡◌, ℕ, zero, suc, List, [], ◌∷◌, map, get_or, sym, ap, ◌∙◌}
+use Rattle.std.proofs.Common.{◌≡◌, ℕ, zero, suc, List, [], ◌∷◌, map, get_or, ap, ◌∙◌}
 use mathlib.Core.Path.{fun_ext}
-use Rattle.std.proofs.Math.ListN.{get_or-map}
 use mathlib.Core.List.{map-map}
 use Rattle.std.specs.List.{AllByRecursion}
 use Rattle.std.proofs.lemmas.List.{map-id}
@@ -13,10 +12,6 @@ map_twice f g h e xs = map-map g h xs ∙ ap (λ k. map k xs) (fun_ext e)
 -- a map and the way back
 pub map_back : {X Y : Type 0} (g : Y → X) (h : X → Y) → ((x : X) → g (h x) ≡ x) → (xs : List X) → map g (map h xs) ≡ xs
 map_back g h e xs = map_twice (λ x. x) g h e xs ∙ map-id xs
-
--- a map that takes the default to the default is read through
-pub get_or_mapped : {X Y : Type 0} (f : X → Y) (d : X) (e : Y) → f d ≡ e → (xs : List X) (i : ℕ) → get_or (map f xs) i e ≡ f (get_or xs i d)
-get_or_mapped f d e z xs i = ap (get_or (map f xs) i) (sym z) ∙ get_or-map f xs i d
 
 -- what holds of the default and of each element is so at any place
 pub any_get_or : {X : Type 0} (P : X → Type 0) (xs : List X) (d : X) → P d → AllByRecursion P xs → (i : ℕ) → P (get_or xs i d)

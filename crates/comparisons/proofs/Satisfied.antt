@@ -1,5 +1,6 @@
 -- The clauses of two rows can all hold exactly where the rows differ.
 use Rattle.std.proofs.Common.{◌≡◌, ℕ, zero, suc, ◌+◌, ◌-◌, ◌*◌, ◌/◌, ◌%◌, ◌<◌, ◌≤◌, Bool, true, false, not, ◌&&◌, ◌||◌, ◌↔◌, List, [], ◌∷◌, ◌++◌, map, length, get_or, sym, refl, ap, ◌∙◌, subst, ap₂, inl, inr, mul-le-mul_right, arith, length-append}
+use Rattle.std.proofs.Math.ListN.{get_or-map}
 use Rattle.std.specs.List.{range_with_len, AllByRecursion}
 use Rattle.std.proofs.lemmas.List.{map-append, length-map, get_or_append_left, get_or_past}
 use Rattle.std.proofs.lemmas.Bool.Decides.{nat_tests}
@@ -7,7 +8,7 @@ use Rattle.std.proofs.lemmas.Bool.{false≢true, false_from_ne_true, or_cases, o
 use Rattle.std.proofs.Math.Bool.{or-false}
 use Rattle.circuits.specs.declared.counts.Counts.{Counts}
 use Rattle.circuits.specs.Net.{Net, first, turned, before, value, gate_values, values}
-use Rattle.circuits.proofs.Mapped.{map_twice, get_or_mapped}
+use Rattle.circuits.proofs.Mapped.{map_twice}
 use Rattle.comparisons.specs.Machine.{machine, Held, FitsPins}
 use Rattle.comparisons.specs.Clauses.{negated, holds, holds_in, Satisfies, Refutable, off, named, vars, gate_clauses, names, next_names, row_clauses, row_results, gate_count, difference_clauses, pin_literals, start, input, left_gates, right_gates, given_clauses}
 use Rattle.comparisons.proofs.Repeats.{all_append, all_parts}
@@ -47,7 +48,7 @@ module _ (v : ℕ → Bool) where
 
 map_first : {X Y : Type 0} (f : X → Y) (d : X) (n : ℕ) (xs : List X) → map f (first d n xs) ≡ first (f d) n (map f xs)
 map_first f d n xs =
-    map_twice (λ k. get_or (map f xs) k (f d)) f (λ k. get_or xs k d) (λ k. sym (get_or_mapped f d (f d) refl xs k)) (range_with_len 0 n)
+    map_twice (λ k. get_or (map f xs) k (f d)) f (λ k. get_or xs k d) (λ k. sym (get_or-map f xs k d)) (range_with_len 0 n)
 
 map_before : {X Y : Type 0} (f : X → Y) (d : X) (c : Counts) (s w : List X) → map f (before d c s w) ≡ before (f d) c (map f s) (map f w)
 map_before f d c s w =
@@ -123,7 +124,7 @@ results (net ∷ row) s ws = (machine net).out s (ws 0) ++ results row ((machine
 module _ (v : ℕ → Bool) (low : v 1 ≡ false) where
   pub named_value : (nets : List ℕ) (x : ℕ) → holds v (named nets x) ≡ value (h v nets) x
   named_value nets x =
-      let e : get_or (h v nets) (x / 2) false ≡ holds v (get_or nets (x / 2) off) = ap (get_or (h v nets) (x / 2)) (sym low) ∙ get_or_mapped (holds v) off (holds v off) refl nets (x / 2) in
+      let e : get_or (h v nets) (x / 2) false ≡ holds v (get_or nets (x / 2) off) = ap (get_or (h v nets) (x / 2)) (sym low) ∙ get_or-map (holds v) nets (x / 2) off in
       holds_turned v (x % 2) (get_or nets (x / 2) off) ∙ ap (turned not (x % 2)) (sym e)
 
   h_named : (nets xs : List ℕ) → h v (map (named nets) xs) ≡ map (value (h v nets)) xs

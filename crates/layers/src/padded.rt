@@ -41,7 +41,7 @@ fn judge_count(counts: Counts, dummies: usize) -> Result<(), PadFault>
 fn judge_dummy(counts: Counts, k: u32, dummy: &Dummy) -> Result<(), PadFault>
     ensures { result ≡ unless_due (dummy_checks counts k dummy.now) tt }
 {
-    if dummy.next as u64 > counts.largest_literal() {
+    if u64::from(dummy.next) > counts.largest_literal() {
         return Err(PadFault::LargeLiteral(k));
     }
     if Pin::try_from(dummy.pin).is_err() {

@@ -2,9 +2,10 @@
 use Rattle.std.proofs.Common.{◌≡◌, ℕ, zero, suc, ◌+◌, ◌*◌, ◌<◌, ◌≤◌, List, [], map, length, get_or, take, drop, sym, refl, ap, ◌∙◌, arith}
 use Rattle.std.specs.Simd.{first_chunks}
 use Rattle.std.proofs.lemmas.List.{get_or-drop, get_or-take, drop-drop, length-map}
+use Rattle.std.proofs.lemmas.List.FromFn.{fill_by_all}
 use Rattle.std.proofs.Math.ListN.{get_or-map}
 use Rattle.circuits.specs.Held.{pairs_in, row_in}
-use Rattle.circuits.proofs.HeldInWords.{made_is, row_words}
+use Rattle.circuits.proofs.HeldInWords.{row_words}
 
 -- a pair of words
 abbrev pub pair_of : List ℕ → ℕ × ℕ
@@ -27,13 +28,13 @@ pub pairs_cut : (words : List ℕ) (count : ℕ) → map pair_of (first_chunks 2
 pairs_cut words count =
     let front : List ℕ = take (2 * count) words in
     let pairs : List (List ℕ) = first_chunks 2 count front in
-    sym (made_is (λ k. (get_or words (2 * k) 0, get_or words (2 * k + 1) 0)) count (map pair_of pairs) (0, 0)
+    fill_by_all (λ k. (get_or words (2 * k) 0, get_or words (2 * k + 1) 0)) (map pair_of pairs) count (0, 0)
     (length-map pairs pair_of ∙ as_many count front) (λ k h.
     let at : (i : ℕ) → i < 2 → get_or words (2 * k + i) 0 ≡ get_or (take 2 (drop (2 * k) front)) i 0 =
     λ i l. sym (get_or-take 2 (drop (2 * k) front) i 0 l ∙ get_or-drop (2 * k) front i 0 ∙ get_or-take (2 * count) words (2 * k + i) 0 (omega arith)) in
     let z : get_or words (2 * k) 0 ≡ get_or (take 2 (drop (2 * k) front)) 0 0 = ap (λ m. get_or words m 0) (omega arith) ∙ at 0 (omega arith) in
     let o = at 1 (omega arith) in
-    ap (λ x. (x, get_or words (2 * k + 1) 0)) z ∙ ap (λ y. (get_or (take 2 (drop (2 * k) front)) 0 0, y)) o
+    sym (ap (λ x. (x, get_or words (2 * k + 1) 0)) z ∙ ap (λ y. (get_or (take 2 (drop (2 * k) front)) 0 0, y)) o
     ∙ ap pair_of (sym (pair_at count front k h)) ∙ sym (get_or-map pair_of pairs k [])))
 
 -- what is left after a cut, and a row that is cut off

@@ -12,6 +12,7 @@ pub use aiger::reading::read;
 pub use circuits::circuit::{Circuit, Gate};
 pub use circuits::counts::{Counts, MOST_WORDS};
 pub use circuits::dummy::Dummy;
+pub use circuits::kind::NetKind;
 pub use circuits::numbered::Numbered;
 pub use circuits::pin::{NoPin, Pin};
 pub use circuits::side::Side;
