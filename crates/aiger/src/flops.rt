@@ -66,6 +66,7 @@ impl Section for Flops {
         Ok(flop)
     }
 
+    // A row of next literals and then a row of pins, as a circuit is laid out.
     fn write(flop: FlopLine, words: &mut [u32], count: usize, j: usize) {
         words[j] = flop.next;
         words[count + j] = u32::from(pin(flop.third));

@@ -44,7 +44,8 @@ pub(crate) trait Section {
         ensures { words.new ≡ line_written count i line words.old };
 }
 
-// Reads the lines of a section, and writes their words. A law of the trait could say that the writes make exactly those
+// Reads the lines of a section, and writes their words. It counts them, since a line is told and written by its number; of what a loop
+// over an adapter of `iter_mut` wrote, a proof knows nothing. A law of the trait could say that the writes make exactly those
 // words, but its proof would have to stand in specs/, so the caller shows it.
 #[tactic(auto, using(crate::proofs::Sections::each_more))]
 pub(crate) fn read_section<S: Section>(

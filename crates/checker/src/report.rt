@@ -13,6 +13,7 @@ use std::fmt;
 // The most bytes that a file may have.
 pub const MOST_BYTES: usize = 65_536;
 
+// No Result: each of the three is a line to print, and one Display proves them all.
 #[derive(Clone, Copy, Debug, PartialEq, Eq)]
 pub enum Report {
     // a file has more than MOST_BYTES bytes

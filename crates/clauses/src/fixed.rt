@@ -7,7 +7,7 @@ use std::marker::Model;
 
 const FLOPS: usize = MOST_FLOPS as usize;
 
-// The literals of the bits, in order.
+// The literals of the bits, in order. They are worked out, so no caller lends them, and no library here uses the heap.
 #[derive(Clone, Copy, Debug, PartialEq, Eq)]
 pub struct Fixed {
     // zeros from `count` on, so that equal bits are equal in memory

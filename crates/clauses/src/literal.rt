@@ -13,7 +13,7 @@ fn negation(literal: u32) -> u32
     literal ^ 1
 }
 
-// A literal, inverted where `odd` is not 0.
+// A literal, inverted where `odd` is not 0; that is what is left of another literal by 2.
 pub(crate) fn inverted(literal: u32, odd: u32) -> u32
     ensures { result ≡ turned negated odd literal }
 {

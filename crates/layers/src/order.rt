@@ -12,7 +12,8 @@ use circuits::counts::MOST_FLOPS;
 
 const FLOPS: usize = MOST_FLOPS as usize;
 
-// The flops of a circuit in some order. The place of each is kept beside it, so that no answer searches.
+// The flops of a circuit in some order. The place of each is kept beside it, so that no answer searches: in an array, since
+// no library here uses the heap.
 #[derive(Drop)]
 pub(crate) struct Order<'p> {
     flops: &'p [u32],

@@ -26,7 +26,7 @@ fn next_and_pin<C: Circuit>(circuit: &C, j: u32) -> Pair {
     Pair(circuit.next(j), circuit.pin(j).into())
 }
 
-// Tells the first of `count` answers of a kind.
+// Tells the first of `count` answers of a kind, by index, since there is no list of them.
 fn tell_first<T: fmt::Display + Drop, F: Fn(u32) -> T>(
     rt: &HostRuntime,
     kind: &str,
