@@ -113,20 +113,20 @@ agree : (c : Counts) (p : List ℕ) → InSomeOrder c.flops p → (state inputs 
     → Agree (flops_moved c (place p)) (before false c state inputs) (before false c (permuted p state) inputs)
 agree c p o state inputs =
     let below = before false c state inputs in let above = before false c (permuted p state) inputs in
-    let lb = length_before c state inputs in let la = length_before c (permuted p state) inputs in
+    let lb = length_before false c state inputs in let la = length_before false c (permuted p state) inputs in
     let lp = o.0 in
     record {
       inside = λ v h. moved_below c (place p) o.1 (length above) (omega arith) v (omega arith);
       same = each_net c (λ v. v < length below → get_or above (flops_moved c (place p) v) false ≡ get_or below v false)
           (λ f h _.
           let k = o.1 f h in
-          ap (λ m. get_or above m false) (moved_flop c (place p) f h) ∙ before_flop c (permuted p state) inputs (place p f) k
+          ap (λ m. get_or above m false) (moved_flop c (place p) f h) ∙ before_flop false c (permuted p state) inputs (place p f) k
           ∙ get_or-map (λ g. get_or state g false) p (place p f) 0 false (omega arith)
-          ∙ ap (λ g. get_or state g false) (at_place p f 0 (omega arith)) ∙ sym (before_flop c state inputs f h))
+          ∙ ap (λ g. get_or state g false) (at_place p f 0 (omega arith)) ∙ sym (before_flop false c state inputs f h))
           (λ v k h.
           let l : v ≤ c.inputs = omega arith in
           ap (λ m. get_or above m false) (moved_other c (place p) v k)
-          ∙ before_ins c (permuted p state) inputs v l ∙ sym (before_ins c state inputs v l));
+          ∙ before_ins false c (permuted p state) inputs v l ∙ sym (before_ins false c state inputs v l));
       onward = λ i. moved_other c (place p) (length below + i) (inr (omega arith)) ∙ omega arith;
     }
 

@@ -95,8 +95,8 @@ module _ (n : Net) (ds : List Dummy) (state held inputs : List Bool) (l : length
   agree : Agree to below above
   agree =
       let m : ℕ = n.counts.inputs + n.counts.flops in
-      let lb : length below ≡ 1 + m = omega (arith, length_before n.counts state inputs) in
-      let la : length above ≡ 1 + m + length ds = omega (arith, length_before (padded n ds).counts (state ++ held) inputs) in
+      let lb : length below ≡ 1 + m = omega (arith, length_before false n.counts state inputs) in
+      let la : length above ≡ 1 + m + length ds = omega (arith, length_before false (padded n ds).counts (state ++ held) inputs) in
       let kept : (v : ℕ) → v < length below → to v ≡ v = λ v h. cond-true (leb v m) v (v + length ds) (le-leb v m (omega arith)) in
       record {
         inside = λ v h. omega (arith, kept v h);

@@ -54,6 +54,11 @@ pub record BoundedCounts (c : Counts) : Type 0 where
 abbrev pub in_bounds : Counts → Bool
 in_bounds c = nat_le c.inputs 256 && (nat_le c.flops 256 && (nat_le c.gates 8192 && (nat_le 1 c.outputs && nat_le c.outputs 256)))
 
+-- the operands of each gate are below its own literal
+abbrev pub OperandsLow : Net → Type 0
+OperandsLow net = (i : ℕ) → i < net.counts.gates
+    → ((gate_at net i).0 < gate_literal net.counts i) × ((gate_at net i).1 < gate_literal net.counts i)
+
 -- all bounds on a circuit
 pub record Bounded (net : Net) : Type 0 where
   pub counts_in : BoundedCounts net.counts
@@ -61,9 +66,7 @@ pub record Bounded (net : Net) : Type 0 where
   pub nexts_are : length net.nexts ≡ net.counts.flops
   pub pins_are : length net.pins ≡ net.counts.flops
   pub outs_are : length net.outs ≡ net.counts.outputs
-  -- the operands of a gate are below its own literal
-  pub operands_in : (i : ℕ) → i < net.counts.gates
-      → ((gate_at net i).0 < gate_literal net.counts i) × ((gate_at net i).1 < gate_literal net.counts i)
+  pub operands_in : OperandsLow net
   pub nexts_in : AllByRecursion (λ x. x ≤ top net.counts) net.nexts
   pub pins_in : AllByRecursion (λ p. p ≤ 2) net.pins
   pub outs_in : AllByRecursion (λ x. x ≤ top net.counts) net.outs

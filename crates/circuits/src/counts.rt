@@ -10,6 +10,9 @@ pub const MOST_INPUTS: u32 = 256;
 
 pub const MOST_FLOPS: u32 = 256;
 
+// The same as the length of an array.
+pub const FLOPS: usize = MOST_FLOPS as usize;
+
 pub const MOST_GATES: u32 = 8_192;
 
 pub const MOST_OUTPUTS: u32 = 256;

@@ -2,10 +2,8 @@
 ghost use Rattle.std.specs.Prelude.{◌≡◌, ℕ, ◌-◌, ◌≤◌, ◌++◌, List, length, take, replicate};
 ghost use Rattle.std.proofs.Common.{ap, ap₂, sym, ◌∙◌};
 
-use circuits::counts::MOST_FLOPS;
+use circuits::counts::FLOPS;
 use std::marker::Model;
-
-const FLOPS: usize = MOST_FLOPS as usize;
 
 // The literals of the bits, in order. They are worked out, so no caller lends them, and no library here uses the heap.
 #[derive(Clone, Copy, Debug, PartialEq, Eq)]

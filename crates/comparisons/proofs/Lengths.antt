@@ -4,11 +4,12 @@ use Rattle.std.proofs.Common.{◌≡◌, ℕ, ◌<◌, ◌≤◌, Bool, false, �
 use Rattle.std.specs.List.{AllByRecursion}
 use Rattle.std.proofs.lemmas.List.{length-map}
 use Rattle.circuits.specs.Net.{Net, first}
+use Rattle.circuits.proofs.NetsBefore.{length_first, first_whole, get_or_first}
 use Rattle.comparisons.specs.Machine.{Any, machine, Bits, FitsPins}
 use Rattle.comparisons.specs.Table.{EqualRows}
 use Rattle.comparisons.specs.Clauses.{Refutable, pin_literals, given_clauses}
 use Rattle.comparisons.proofs.Sequences.{Equal, tabulate, length_tabulate, all_tabulate, all_any, on_list, to_list}
-use Rattle.comparisons.proofs.Sized.{Sized, length_first, first_whole, get_or_first}
+use Rattle.comparisons.proofs.Sized.{Sized}
 use Rattle.comparisons.proofs.Satisfied.{joined_results, split_results, same_run, fits_move, clauses_total}
 
 module _ (inputs flops outs : ℕ) (pins : List ℕ) where

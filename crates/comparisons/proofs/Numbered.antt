@@ -4,10 +4,11 @@ use Rattle.std.specs.List.{AllByRecursion}
 use Rattle.std.proofs.lemmas.List.{get_or_append_left, get_or-append-add, get_or-map, length-map}
 use Rattle.std.proofs.lemmas.Bool.{cases_lt}
 use Rattle.circuits.specs.Net.{Net, Bounded, gate_at, next_at, out_at, first, turned, before}
+use Rattle.circuits.proofs.NetsBefore.{length_first, get_or_first, length_before}
 use Rattle.comparisons.specs.Clauses.{negated, clause_at, off, named, names, next_names, vars, gate_clauses, row_clauses, row_results, gate_count, difference_clauses, pin_literals, start, input, left_gates, right_gates, differences, left_results, right_results}
 use Rattle.comparisons.specs.Places.{gate_clause, difference_clause, pinned, net_at, cycle_at, flops_at, names_at, NetsNamed, BitsNamed, Placed, PinsPlaced}
 use Rattle.comparisons.proofs.Sequences.{rest}
-use Rattle.comparisons.proofs.Sized.{Sized, length_first, get_or_first}
+use Rattle.comparisons.proofs.Sized.{Sized}
 use Rattle.comparisons.proofs.Sizes.{length_gates, length_rows, length_differ, counted_results, counted_variables, counted_clauses}
 
 -- variables in a row
@@ -18,10 +19,6 @@ get_or_vars (suc n) z zero d l = omega arith
 get_or_vars (suc n) z (suc k) d l = let more = get_or_vars n (suc z) k d (omega arith) in omega arith
 
 -- the literal of each net
-
-length_before : (net : Net) (s w : List ℕ) → length (before off net.counts s w) ≡ 1 + net.counts.inputs + net.counts.flops
-length_before net s w =
-    omega (arith, length-append (first off net.counts.inputs w) (first off net.counts.flops s), length_first off net.counts.inputs w, length_first off net.counts.flops s)
 
 pub nets_named : (net : Net) (s w : List ℕ) (z : ℕ) → NetsNamed net s w z
 nets_named net s w z =
@@ -34,7 +31,7 @@ nets_named net s w z =
     let ly = length_first off L s in
     let lxy = length-append xs ys in
     let nets = before off net.counts s w in
-    let lb = length_before net s w in
+    let lb = length_before off net.counts s w in
     record {
       of_off = refl;
       of_input = λ i b.
@@ -97,7 +94,7 @@ cycle_place net back s w z i r l b =
     let nets = before off net.counts s w in
     let ops = gate_at net i in
     let (bx, by) = back.operands_in i (omega (arith, back.operands_are)) in
-    let n = length_before net s w in
+    let n = length_before off net.counts s w in
     gate_place net.operands nets z i r l b
     ∙ ap₂ (gate_clause r (z + i)) (named_more nets i (length net.operands) z ops.0 (omega arith) (omega arith)) (named_more nets i (length net.operands) z ops.1 (omega arith) (omega arith))
 

@@ -9,11 +9,12 @@ use Rattle.std.proofs.Math.Bool.{or-false}
 use Rattle.circuits.specs.declared.counts.Counts.{Counts}
 use Rattle.circuits.specs.Net.{Net, first, turned, before, value, gate_values, values}
 use Rattle.circuits.proofs.Mapped.{map_twice}
+use Rattle.circuits.proofs.NetsBefore.{length_first, first_whole, get_or_first}
 use Rattle.comparisons.specs.Machine.{machine, Held, FitsPins}
 use Rattle.comparisons.specs.Clauses.{negated, holds, holds_in, Satisfies, Refutable, off, named, vars, gate_clauses, names, next_names, row_clauses, row_results, gate_count, difference_clauses, pin_literals, start, input, left_gates, right_gates, given_clauses}
 use Rattle.comparisons.proofs.Repeats.{all_append, all_parts}
 use Rattle.comparisons.proofs.Sequences.{rest, outputs, final, Equal}
-use Rattle.comparisons.proofs.Sized.{Sized, length_first, first_whole, get_or_first}
+use Rattle.comparisons.proofs.Sized.{Sized}
 
 -- literals
 

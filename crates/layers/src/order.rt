@@ -8,9 +8,7 @@ ghost use Rattle.layers.specs.Matching.{flop_check, match_checks};
 ghost use Rattle.layers.specs.Orders.{KeptPlaces, PlacesOf};
 
 use crate::fault::MatchFault;
-use circuits::counts::MOST_FLOPS;
-
-const FLOPS: usize = MOST_FLOPS as usize;
+use circuits::counts::{FLOPS, MOST_FLOPS};
 
 // The flops of a circuit in some order. The place of each is kept beside it, so that no answer searches: in an array, since
 // no library here uses the heap.

@@ -1,6 +1,6 @@
 -- What sections of words stand for.
-use Rattle.std.specs.Prelude.{ℕ, ◌<◌, map, slice_index}
-use Rattle.circuits.specs.Net.{Net, gate_at, gate_literal}
+use Rattle.std.specs.Prelude.{map, slice_index}
+use Rattle.circuits.specs.Net.{Net}
 use Rattle.netlists.specs.declared.sections.Sections.{Sections}
 
 -- the circuit in them
@@ -12,8 +12,3 @@ net_of s = record {
   pins = s.pins.now;
   outs = s.outs.now;
 }
-
--- the operands of each gate are below its own literal
-abbrev pub OperandsLow : Net → Type 0
-OperandsLow net = (i : ℕ) → i < net.counts.gates
-    → ((gate_at net i).0 < gate_literal net.counts i) × ((gate_at net i).1 < gate_literal net.counts i)

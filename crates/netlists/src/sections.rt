@@ -1,6 +1,6 @@
 // Lent words, cut into the parts of a circuit.
 ghost use Rattle.std.specs.Prelude.{◌≡◌, ◌<◌, ◌≤◌, length, slice_index, Decides, IfSome, IfNone, All};
-ghost use Rattle.circuits.specs.Net.{Bounded};
+ghost use Rattle.circuits.specs.Net.{Bounded, OperandsLow};
 ghost use Rattle.circuits.specs.Held.{Holds, net_in};
 ghost use Rattle.netlists.specs.Plain.{SomeHeld};
 
@@ -36,7 +36,7 @@ fn both_below(pair: &[u32; 2], limit: u64) -> bool
 }
 
 impl<'a> Sections<'a> {
-    ghost use Rattle.netlists.specs.Sections.{net_of, OperandsLow};
+    ghost use Rattle.netlists.specs.Sections.{net_of};
 
     // The first words, where there are enough of them. They hold a circuit of these counts where the sections keep all bounds.
     pub fn cut(counts: Counts, words: &'a [u32]) -> Option<Sections<'a>>
