@@ -1,11 +1,10 @@
 // A circuit with its flops in another order.
 ghost use Rattle.std.specs.Prelude.{◌≡◌, OnOk};
-ghost use Rattle.circuits.specs.Checks.{unless_due};
 ghost use Rattle.circuits.specs.Renumbered.{renumbered};
 ghost use Rattle.circuits.specs.Matched.{place, flops_moved, matched, InSomeOrder, MatchingLaws};
 ghost use Rattle.circuits.proofs.Matchings.{matched_bounded};
 ghost use Rattle.layers.specs.Layers.{meant};
-ghost use Rattle.layers.specs.Matching.{match_checks, matching, MatchesOrders};
+ghost use Rattle.layers.specs.Matching.{matching, MatchesOrders};
 ghost use Rattle.layers.specs.MatchedAnswers.{StandsAt};
 
 use crate::fault::MatchFault;
@@ -23,16 +22,6 @@ pub struct Matched<'a, 'p, C: Circuit> {
     ghost ordered: { InSomeOrder (C.Circuit.meaning below.now).counts.flops order.flops.now },
 }
 
-// The order, judged for the circuit below; one that passes keeps the laws of matching.
-fn judge<'p, C: Circuit>(below: &C, order: &'p [u32]) -> Result<Order<'p>, MatchFault>
-    ensures answer { meant (λ judged. judged.flops.now) result
-        ≡ unless_due (match_checks (C.Circuit.meaning below.now).counts.flops order.now) order.now }
-    ensures ordered { OnOk result (InSomeOrder (C.Circuit.meaning below.now).counts.flops order.now) }
-    ensures laws { OnOk result (MatchingLaws (C.Circuit.meaning below.now) order.now) }
-{
-    Order::new(order, below.counts().flops)
-}
-
 impl<'a, 'p, C: Circuit> Matched<'a, 'p, C> {
     // The circuit below with its flops in this order, or why not: the length is judged first, then each flop.
     #[tactic(auto, using(crate::proofs::Matches::matches_orders))]
@@ -42,7 +31,7 @@ impl<'a, 'p, C: Circuit> Matched<'a, 'p, C> {
         ensures exact { MatchesOrders (C.Circuit.meaning below.now).counts.flops order.now }
         ensures laws { OnOk result (MatchingLaws (C.Circuit.meaning below.now) order.now) }
     {
-        let order = judge(below, order)?;
+        let order = Order::new(below, order)?;
         Ok(Matched { below, order })
     }
 

@@ -1,13 +1,14 @@
 // The order of a circuit's flops.
-ghost use Rattle.std.specs.Prelude.{◌≡◌, ◌<◌, ◌≤◌, map, length, slice_get, OnOk};
+ghost use Rattle.std.specs.Prelude.{◌≡◌, ◌<◌, ◌≤◌, [], ◌∷◌, map, length, slice_get, OnOk};
 ghost use Rattle.std.specs.List.{range_with_len};
 ghost use Rattle.circuits.specs.Checks.{unless_due};
-ghost use Rattle.circuits.specs.Matched.{place, InSomeOrder};
+ghost use Rattle.circuits.specs.Matched.{place, InSomeOrder, MatchingLaws};
 ghost use Rattle.layers.specs.Layers.{meant};
-ghost use Rattle.layers.specs.Matching.{flop_check, match_checks};
+ghost use Rattle.layers.specs.Matching.{length_check, flop_check, match_checks};
 ghost use Rattle.layers.specs.Orders.{KeptPlaces, PlacesOf};
 
 use crate::fault::MatchFault;
+use circuits::circuit::Circuit;
 use circuits::counts::{FLOPS, MOST_FLOPS};
 
 // The flops of a circuit in some order. The place of each is kept beside it, so that no answer searches: in an array, since
@@ -19,6 +20,16 @@ pub(crate) struct Order<'p> {
     ghost few: { length flops.now ≤ 256 },
     ghost in_order: { InSomeOrder (length flops.now) flops.now },
     ghost placed: { PlacesOf flops.now places },
+}
+
+// Judges whether there is an entry for each of so many flops.
+fn judge_length(flops: &[u32], count: u32) -> Result<(), MatchFault>
+    ensures { result ≡ unless_due (length_check count flops.now ∷ []) tt }
+{
+    if flops.len() != count as usize {
+        return Err(MatchFault::WrongLength);
+    }
+    Ok(())
 }
 
 // A place for each flop: one that is named stands there.
@@ -53,15 +64,14 @@ fn judge_flops(flops: &[u32], places: &[u32; FLOPS]) -> Result<(), MatchFault>
 }
 
 impl<'p> Order<'p> {
-    // This order for so many flops, or why it is none: the length is judged first, then each flop.
-    pub(crate) fn new(flops: &'p [u32], count: u32) -> Result<Order<'p>, MatchFault>
-        requires { count ≤ 256 }
-        ensures answer { meant (λ order. order.flops.now) result ≡ unless_due (match_checks count flops.now) flops.now }
-        ensures ordered { OnOk result (InSomeOrder count flops.now) }
+    // This order for the circuit below, or why it is none: the length is judged first, then each flop. One that passes keeps the
+    // laws of matching.
+    pub(crate) fn new<C: Circuit>(below: &C, flops: &'p [u32]) -> Result<Order<'p>, MatchFault>
+        ensures answer { meant (λ order. order.flops.now) result
+            ≡ unless_due (match_checks (C.Circuit.meaning below.now).counts.flops flops.now) flops.now }
+        ensures laws { OnOk result (MatchingLaws (C.Circuit.meaning below.now) flops.now) }
     {
-        if flops.len() != count as usize {
-            return Err(MatchFault::WrongLength);
-        }
+        judge_length(flops, below.counts().flops)?;
         let places = places_in(flops);
         judge_flops(flops, &places)?;
         Ok(Order { flops, places })
