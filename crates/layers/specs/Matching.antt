@@ -7,17 +7,13 @@ use Rattle.circuits.specs.Matched.{place, InSomeOrder, matched}
 use Rattle.layers.specs.declared.fault.MatchFault.{MatchFault}
 use Rattle.layers.specs.declared.fault.MatchFault.TheVariants.{WrongLength, Unmatched}
 
--- an order that has not l entries
-abbrev pub length_check : ℕ → List ℕ → Check MatchFault
-length_check l p = (WrongLength, not (length p == l))
-
 -- a flop that does not stand in the order
 abbrev pub flop_check : List ℕ → ℕ → Check MatchFault
 flop_check p f = (Unmatched f, nat_le (length p) (place p f))
 
 -- an order for l flops: its length, then each flop
 abbrev pub match_checks : ℕ → List ℕ → List (Check MatchFault)
-match_checks l p = length_check l p ∷ map (flop_check p) (range_with_len 0 l)
+match_checks l p = (WrongLength, not (length p == l)) ∷ map (flop_check p) (range_with_len 0 l)
 
 -- the matched circuit, or the first check that is due
 abbrev pub matching : Net → List ℕ → Result Net MatchFault

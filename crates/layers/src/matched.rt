@@ -6,20 +6,24 @@ ghost use Rattle.circuits.proofs.Matchings.{matched_bounded};
 ghost use Rattle.layers.specs.Layers.{meant};
 ghost use Rattle.layers.specs.Matching.{matching, MatchesOrders};
 ghost use Rattle.layers.specs.MatchedAnswers.{StandsAt};
+ghost use Rattle.layers.specs.Orders.{PlacesOf};
 
 use crate::fault::MatchFault;
-use crate::order::Order;
+use crate::order::{judge_flops, places_in};
 use circuits::circuit::{Circuit, Gate};
-use circuits::counts::Counts;
+use circuits::counts::{Counts, FLOPS};
 use circuits::kind::NetKind;
 use circuits::pin::Pin;
 
-// The circuit below, whose flop `order[j]` is flop j here.
+// The circuit below, whose flop `order[j]` is flop j here. The place of each flop is kept beside the order, so that no answer
+// searches: in an array, since no library here uses the heap.
 #[derive(Drop)]
 pub struct Matched<'a, 'p, C: Circuit> {
     below: &'a C,
-    order: Order<'p>,
-    ghost ordered: { InSomeOrder (C.Circuit.meaning below.now).counts.flops order.flops.now },
+    order: &'p [u32],
+    places: [u32; FLOPS],
+    ghost ordered: { InSomeOrder (C.Circuit.meaning below.now).counts.flops order.now },
+    ghost placed: { PlacesOf order.now places },
 }
 
 impl<'a, 'p, C: Circuit> Matched<'a, 'p, C> {
@@ -31,34 +35,42 @@ impl<'a, 'p, C: Circuit> Matched<'a, 'p, C> {
         ensures exact { MatchesOrders (C.Circuit.meaning below.now).counts.flops order.now }
         ensures laws { OnOk result (MatchingLaws (C.Circuit.meaning below.now) order.now) }
     {
-        let order = Order::new(below, order)?;
-        Ok(Matched { below, order })
+        if order.len() != below.counts().flops as usize {
+            return Err(MatchFault::WrongLength);
+        }
+        let places = places_in(order);
+        judge_flops(order, &places)?;
+        Ok(Matched {
+            below,
+            order,
+            places,
+        })
     }
 
     // Which flop below flop j is; past the last flop, j itself.
     fn flop(&self, j: u32) -> u32
-        ensures { StandsAt (C.Circuit.meaning self.now.below.now) self.now.order.flops.now j result }
+        ensures { StandsAt (C.Circuit.meaning self.now.below.now) self.now.order.now j result }
     {
-        self.order.flop(j).unwrap_or(j)
+        self.order.get(j as usize).copied().unwrap_or(j)
     }
 
     // A literal of the circuit below; flops go by their places.
     fn literal(&self, x: u32) -> u32
-        ensures { result ≡ renumbered (flops_moved (C.Circuit.meaning self.now.below.now).counts (place self.now.order.flops.now)) x }
+        ensures { result ≡ renumbered (flops_moved (C.Circuit.meaning self.now.below.now).counts (place self.now.order.now)) x }
     {
         let counts = self.below.counts();
         let NetKind::Flop(flop) = counts.kind(x / 2) else {
             return x;
         };
-        let place = self.order.place(flop);
+        let place = self.places[flop as usize];
         2 * (1 + counts.inputs + place) + x % 2
     }
 }
 
 impl<'a, 'p, C: Circuit> Circuit for Matched<'a, 'p, C> {
-    ghost meaning = { λ x. matched (C.Circuit.meaning x.below.now) x.order.flops.now };
+    ghost meaning = { λ x. matched (C.Circuit.meaning x.below.now) x.order.now };
 
-    ghost bounded = { λ x. matched_bounded (C.Circuit.meaning x.below.now) x.order.flops.now (C.Circuit.bounded x.below.now) x.ordered };
+    ghost bounded = { λ x. matched_bounded (C.Circuit.meaning x.below.now) x.order.now (C.Circuit.bounded x.below.now) x.ordered };
 
     fn counts(&self) -> Counts {
         self.below.counts()
