@@ -32,12 +32,6 @@ module _ (p places : List ℕ) (placed : KeptPlaces p places) (f : ℕ) (few : f
   pub named_stands : place p f < length p → get_or p (get_or places f 0) 0 ≡ f
   named_stands h = let e = at_place p f 0 h in grind (arith, placed.stands (place p f))
 
--- in an order, the place at which a flop stands is its place
-pub places_of : (p places : List ℕ) → length p ≤ 256 → KeptPlaces p places → InSomeOrder (length p) p → PlacesOf p places
-places_of p places few placed o f h =
-    let stands = named_stands p places placed f (omega arith) (o.1 f h) in
-    sym ((names_flops (length p) p o (get_or places f 0) (placed.inside f (omega arith) (omega arith))).1) ∙ ap (place p) stands
-
 -- the checks from flop k on, where l flops are checked
 module _ (p : List ℕ) (l k : ℕ) (h : k < l) where
   abbrev from_flop : ℕ → Result (Unit {0}) MatchFault
@@ -78,6 +72,14 @@ passed_orders p e =
     let flops = map (flop_check p) (range_with_len 0 (length p)) in
     let a = all_passed flops (none_from_ok flops (tt {0}) (tt {0}) (sym e)) in
     (refl, λ f h. flops_stand p 0 (length p) a f (omega arith) (omega arith))
+
+-- and the place at which each stands is its place
+pub places_of : (p places : List ℕ) → length p ≤ 256 → KeptPlaces p places
+    → Ok (tt {0}) ≡ unless_due (map (flop_check p) (range_with_len 0 (length p))) (tt {0}) → PlacesOf p places
+places_of p places few placed e f h =
+    let o = passed_orders p e in
+    let stands = named_stands p places placed f (omega arith) (o.1 f h) in
+    sym ((names_flops (length p) p o (get_or places f 0) (placed.inside f (omega arith) (omega arith))).1) ∙ ap (place p) stands
 
 -- which flop stands at j, and past the last flop j itself
 pub stands_at : (n : Net) (b : Bounded n) (p : List ℕ) → length p ≡ n.counts.flops → (j : ℕ) → StandsAt n p j (unwrap_or (slice_get p j) j)

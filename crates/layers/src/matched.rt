@@ -28,7 +28,7 @@ pub struct Matched<'a, 'p, C: Circuit> {
 
 impl<'a, 'p, C: Circuit> Matched<'a, 'p, C> {
     // The circuit below with its flops in this order, or why not: the length is judged first, then each flop.
-    #[tactic(auto, using(crate::proofs::Matches::matches_orders))]
+    #[tactic(auto, using(crate::proofs::Matches::matches_orders, crate::proofs::Matches::passed_orders))]
     pub fn new(below: &'a C, order: &'p [u32]) -> Result<Matched<'a, 'p, C>, MatchFault>
         ensures answer { meant (λ m. ⟦<Matched<'a, 'p, C> as Circuit>⟧.meaning m) result
             ≡ matching (C.Circuit.meaning below.now) order.now }

