@@ -46,6 +46,9 @@ module _ (p : List ℕ) (l k : ℕ) (h : k < l) where
   pub flop_refused : length p ≤ place p k → from_flop k ≡ Err (Unmatched k)
   flop_refused h = opened ∙ grind (arith, common_steps)
 
+-- what judging a flop takes
+pub ruleset flop_steps = (common_steps, flop_named, named_stands, flop_passed, flop_refused)
+
 -- the checks of n flops from a on pass exactly where each stands in p
 flops_stand : (p : List ℕ) (a n : ℕ) → Passed (map (flop_check p) (range_with_len a n)) → (f : ℕ) → a ≤ f → f < a + n → place p f < length p
 flops_stand p a zero h f l m = absurd (omega arith)

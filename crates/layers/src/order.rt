@@ -23,7 +23,7 @@ pub(crate) fn places_in(flops: &[u32]) -> [u32; FLOPS]
 }
 
 // Judges whether each flop is named: one that is stands at the place that is kept for it.
-#[tactic(auto, using(std::proofs::lemmas::Grind::common_steps, crate::proofs::Matches::flop_named, crate::proofs::Matches::named_stands, crate::proofs::Matches::flop_passed, crate::proofs::Matches::flop_refused))]
+#[tactic(auto, using(crate::proofs::Matches::flop_steps))]
 pub(crate) fn judge_flops(flops: &[u32], places: &[u32; FLOPS]) -> Result<(), MatchFault>
     requires few { length flops.now ≤ 256 }
     requires placed { KeptPlaces flops.now places.now }
