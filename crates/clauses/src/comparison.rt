@@ -1,5 +1,5 @@
-// A comparison of two circuits of any kinds: the literals of its clauses about gates and about differences. No list is built.
-ghost use Rattle.std.specs.Prelude.{◌≡◌, ◌<◌, ◌≤◌, ◌↔◌, ◌&&◌, IsTrue, IsSome, IfSome, slice_index};
+// A comparison of two circuits of any kinds: its clauses about gates and about differences.
+ghost use Rattle.std.specs.Prelude.{◌≡◌, ◌<◌, ◌≤◌, ◌↔◌, ◌&&◌, IsTrue, IsSome, IfSome};
 ghost use Rattle.comparisons.specs.Clauses.{named as naming};
 ghost use Rattle.comparisons.specs.Opening as opening;
 ghost use Rattle.clauses.specs.Plans.{in_time};
@@ -7,7 +7,7 @@ ghost use Rattle.clauses.specs.Shapes.{IsDifferenceOf};
 ghost use Rattle.clauses.specs.Asked.{runs, OfCycle, names_in, compared_of, gate_clause_of, difference_clause_of};
 
 use crate::fixed::Fixed;
-use crate::literal::{difference_literal, gate_literal, inverted};
+use crate::literal::{Clause, Defined, inverted};
 use crate::part::{DifferencePart, GatePart};
 use crate::plan::{Half, Plan};
 use crate::running::Running;
@@ -118,28 +118,32 @@ impl<'a, O: Circuit, G: Circuit> Comparison<'a, O, G> {
         }
     }
 
-    // Literal i of a clause about a gate.
+    // A clause about a gate.
     #[tactic(auto, using(circuits::proofs::Lookups::gate_low))]
-    fn gate_literal(&self, half: Half, spot: Spot, part: GatePart, i: u32) -> u32
+    fn gate_clause(&self, half: Half, spot: Spot, part: GatePart) -> Clause
         requires early { spot.cycle < self.now.shape.plan.cycles }
         requires low { spot.at < 8192 }
-        ensures { result ≡ slice_index (gate_clause_of self.now half spot part) i }
+        ensures { result.items ≡ gate_clause_of self.now half spot part }
     {
-        let variable = self.shape.gate_variable(half, spot);
         let Gate { left, right } = self.running(half, spot.cycle).gate(spot.at);
-        let left = self.named(half, spot.cycle, left);
-        let right = self.named(half, spot.cycle, right);
-        gate_literal(variable, left, right, part, i)
+        let gate = Defined {
+            variable: self.shape.gate_variable(half, spot),
+            left: self.named(half, spot.cycle, left),
+            right: self.named(half, spot.cycle, right),
+        };
+        gate.gate_clause(part)
     }
 
-    // Literal i of a clause about a difference.
-    fn difference_literal(&self, difference: Difference, part: DifferencePart, i: u32) -> u32
+    // A clause about a difference.
+    fn difference_clause(&self, difference: Difference, part: DifferencePart) -> Clause
         requires { IsDifferenceOf self.now.shape difference }
-        ensures { result ≡ slice_index (difference_clause_of self.now difference part) i }
+        ensures { result.items ≡ difference_clause_of self.now difference part }
     {
-        let variable = self.shape.difference_variable(difference);
-        let left = self.compared(Half::Left, difference);
-        let right = self.compared(Half::Right, difference);
-        difference_literal(variable, left, right, part, i)
+        let compared = Defined {
+            variable: self.shape.difference_variable(difference),
+            left: self.compared(Half::Left, difference),
+            right: self.compared(Half::Right, difference),
+        };
+        compared.difference_clause(part)
     }
 }
