@@ -58,7 +58,7 @@ module _ (s : Shape) (half : Half) (t : ℕ) where
   var_flop : (j : ℕ) → j < s.original.flops → own_variable s half t (1 + s.original.inputs + j) ≡ 2 + j
   var_flop j l = grind (arith, nat_tests)
 
-  var_gate : (g : ℕ) → own_variable s half t (1 + s.original.inputs + s.original.flops + g) ≡ gate_variable s half (record { cycle = t; at = g })
+  var_gate : (g : ℕ) → own_variable s half t (1 + s.original.inputs + s.original.flops + g) ≡ gate_variable s half t g
   var_gate g = grind (arith, nat_tests)
 
 module _ {c : Compared} (sizes : Sizes c) where
@@ -112,7 +112,7 @@ module _ {c : Compared} (sizes : Sizes c) where
     net_flop j l =
         ap (λ m. get_or Nets (1 + m + j) off) (sym sized.inputs_are) ∙ (nets_named net held (input I L t) z).of_flop j (omega (arith, sized.flops_are))
 
-    net_gate : (g : ℕ) → g < length net.operands → get_or Nets (1 + I + L + g) off ≡ 2 * gate_variable s half (record { cycle = t; at = g })
+    net_gate : (g : ℕ) → g < length net.operands → get_or Nets (1 + I + L + g) off ≡ 2 * gate_variable s half t g
     unfolding names_in
     net_gate g l =
         let before = count_before sizes half t (omega arith) in

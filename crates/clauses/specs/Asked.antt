@@ -53,7 +53,7 @@ module _ (c : Compared) where
   abbrev pub gate_clause_of : Half → Spot → GatePart → List ℕ
   gate_clause_of half spot part =
       let g = gate_at (runs half spot.cycle) spot.at in
-      gate_clause (gate_part part) (gate_variable c.shape half spot) (named (names_in half spot.cycle) g.0) (named (names_in half spot.cycle) g.1)
+      gate_clause (gate_part part) (gate_variable c.shape half spot.cycle spot.at) (named (names_in half spot.cycle) g.0) (named (names_in half spot.cycle) g.1)
 
   abbrev pub difference_clause_of : Difference → DifferencePart → List ℕ
   difference_clause_of d part = difference_clause (difference_part part) (difference_variable c.shape d) (compared_of Left d) (compared_of Right d)

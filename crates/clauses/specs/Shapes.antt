@@ -71,8 +71,8 @@ module _ (s : Shape) where
   abbrev pub first_gate : ℕ
   first_gate = 2 + s.original.flops + s.plan.cycles * s.original.inputs
 
-  abbrev pub gate_variable : Half → Spot → ℕ
-  gate_variable half spot = first_gate + gates_ahead half + gates_before half spot.cycle + spot.at
+  abbrev pub gate_variable : Half → ℕ → ℕ → ℕ
+  gate_variable half t at = first_gate + gates_ahead half + gates_before half t + at
 
   abbrev pub first_difference : ℕ
   first_difference = first_gate + all_gates
@@ -94,7 +94,7 @@ module _ (s : Shape) where
       if net == 0 then 1
       else (if nat_le net I then 1 + L + t * I + net
       else (if nat_le net (I + L) then 1 + net - I
-      else gate_variable half (record { cycle = t; at = net - (1 + I + L) })))
+      else gate_variable half t (net - (1 + I + L))))
 
   abbrev pub own_literal : Half → ℕ → ℕ → ℕ
   own_literal half t x = 2 * own_variable half t (x / 2) + x % 2

@@ -11,7 +11,7 @@ use crate::literal::{Clause, Defined, inverted};
 use crate::part::{DifferencePart, GatePart};
 use crate::plan::{Half, Plan};
 use crate::running::Running;
-use crate::shape::{Difference, Shape, Spot};
+use crate::shape::{Difference, Shape, Spot, Step};
 use circuits::circuit::{Circuit, Gate};
 use circuits::counts::Counts;
 use circuits::kind::NetKind;
@@ -77,29 +77,30 @@ impl<'a, O: Circuit, G: Circuit> Comparison<'a, O, G> {
         })
     }
 
-    // The circuit that runs in cycle t of a row.
-    fn running(&self, half: Half, t: u32) -> Running<'a, O, G>
-        ensures { ⟦<Running<'a, O, G> as Circuit>⟧.meaning result ≡ runs self.now half t }
+    // The circuit that runs in a cycle.
+    fn running(&self, step: Step) -> Running<'a, O, G>
+        ensures { ⟦<Running<'a, O, G> as Circuit>⟧.meaning result ≡ runs self.now step.half step.cycle }
     {
-        match self.shape.plan.row(half).side(t) {
+        match self.shape.plan.row(step.half).side(step.cycle) {
             Side::Original => Running::Original(self.original),
             Side::Gated => Running::Gated(self.gated),
         }
     }
 
-    // What literal x of cycle t of a row is among the literals of the clauses: a flop is what its next literal is in the cycle before.
-    fn named(&self, half: Half, cycle: u32, mut x: u32) -> u32
-        requires early { cycle < self.now.shape.plan.cycles }
-        requires of_cycle { OfCycle self.now half cycle x }
-        ensures { result ≡ naming (names_in self.now half cycle) x }
+    // What literal x of a cycle is among the literals of the clauses: a flop is what its next literal is in the cycle before.
+    fn named(&self, step: Step, mut x: u32) -> u32
+        requires early { step.cycle < self.now.shape.plan.cycles }
+        requires of_cycle { OfCycle self.now step.half step.cycle x }
+        ensures { result ≡ naming (names_in self.now step.half step.cycle) x }
     {
+        let Step { half, cycle } = step;
         for t in (0..cycle).rev() {
             let NetKind::Flop(flop) = self.shape.original.kind(x / 2) else {
-                return self.shape.own_literal(half, t + 1, x);
+                return self.shape.own_literal(Step { half, cycle: t + 1 }, x);
             };
-            x = inverted(self.running(half, t).next(flop), x % 2);
+            x = inverted(self.running(Step { half, cycle: t }).next(flop), x % 2);
         }
-        self.shape.own_literal(half, 0, x)
+        self.shape.own_literal(Step { half, cycle: 0 }, x)
     }
 
     // What a row has where it is compared.
@@ -109,11 +110,13 @@ impl<'a, O: Circuit, G: Circuit> Comparison<'a, O, G> {
     {
         match difference {
             Difference::Output(Spot { cycle, at }) => {
-                self.named(half, cycle, self.running(half, cycle).out(at))
+                let step = Step { half, cycle };
+                self.named(step, self.running(step).out(at))
             }
             Difference::Final(flop) => {
-                let last = self.shape.plan.cycles - 1;
-                self.named(half, last, self.running(half, last).next(flop))
+                let cycle = self.shape.plan.cycles - 1;
+                let last = Step { half, cycle };
+                self.named(last, self.running(last).next(flop))
             }
         }
     }
@@ -125,11 +128,13 @@ impl<'a, O: Circuit, G: Circuit> Comparison<'a, O, G> {
         requires low { spot.at < 8192 }
         ensures { result.items ≡ gate_clause_of self.now half spot part }
     {
-        let Gate { left, right } = self.running(half, spot.cycle).gate(spot.at);
+        let Spot { cycle, at } = spot;
+        let step = Step { half, cycle };
+        let Gate { left, right } = self.running(step).gate(at);
         let gate = Defined {
-            variable: self.shape.gate_variable(half, spot),
-            left: self.named(half, spot.cycle, left),
-            right: self.named(half, spot.cycle, right),
+            variable: self.shape.gate_variable(step, at),
+            left: self.named(step, left),
+            right: self.named(step, right),
         };
         gate.gate_clause(part)
     }
