@@ -3,7 +3,7 @@ ghost use Rattle.std.specs.Prelude.{◌≡◌, ◌<◌, ◌≤◌, ◌↔◌, �
 ghost use Rattle.comparisons.specs.Clauses.{named as naming};
 ghost use Rattle.comparisons.specs.Opening as opening;
 ghost use Rattle.clauses.specs.Plans.{in_time};
-ghost use Rattle.clauses.specs.Shapes.{IsDifferenceOf};
+ghost use Rattle.clauses.specs.Shapes.{IsDifferenceOf, all_differences};
 ghost use Rattle.clauses.specs.Asked.{runs, OfCycle, names_in, compared_of, gate_clause_of, difference_clause_of};
 
 use crate::fixed::Fixed;
@@ -139,13 +139,14 @@ impl<'a, O: Circuit, G: Circuit> Comparison<'a, O, G> {
         gate.gate_clause(part)
     }
 
-    // A clause about a difference.
-    fn difference_clause(&self, difference: Difference, part: DifferencePart) -> Clause
-        requires { IsDifferenceOf self.now.shape difference }
-        ensures { result.items ≡ difference_clause_of self.now difference part }
+    // A clause about difference e.
+    fn difference_clause(&self, e: u32, part: DifferencePart) -> Clause
+        requires { e < all_differences self.now.shape }
+        ensures { result.items ≡ difference_clause_of self.now e part }
     {
+        let difference = self.shape.difference(e);
         let compared = Defined {
-            variable: self.shape.difference_variable(difference),
+            variable: self.shape.first_difference() + e,
             left: self.compared(Half::Left, difference),
             right: self.compared(Half::Right, difference),
         };

@@ -26,7 +26,7 @@ pub(crate) struct Step {
 
 // What the rows of a comparison are compared at.
 #[derive(Clone, Copy, Debug, PartialEq, Eq)]
-pub enum Difference {
+pub(crate) enum Difference {
     // an output in a cycle
     Output(Spot),
     // the final bit of a flop
@@ -55,8 +55,8 @@ pub enum Place {
     Constant,
     // a gate in a cycle of a row
     Gate(Half, Spot, GatePart),
-    // what the rows are compared at
-    Difference(Difference, DifferencePart),
+    // a difference, by its number
+    Difference(u32, DifferencePart),
     // that there is a difference
     Differences,
     // a start bit that is fixed
@@ -177,8 +177,9 @@ impl Shape {
     }
 
     // Difference e.
-    fn difference(self, e: u32) -> Difference
+    pub(crate) fn difference(self, e: u32) -> Difference
         requires { e < spec.all_differences self }
+        ensures is { result ≡ spec.difference_at self e }
         ensures of { spec.IsDifferenceOf self result }
         ensures number { spec.difference_number self result ≡ e }
     {
@@ -192,21 +193,8 @@ impl Shape {
         })
     }
 
-    // The variable of a difference.
-    pub(crate) fn difference_variable(self, difference: Difference) -> u32
-        requires { spec.IsDifferenceOf self difference }
-        ensures is { result ≡ spec.difference_variable self difference }
-        ensures few { result < 2 ^ 31 }
-    {
-        self.first_difference()
-            + match difference {
-                Difference::Output(spot) => spot.cycle * self.original.outputs + spot.at,
-                Difference::Final(flop) => self.outputs() + flop,
-            }
-    }
-
     // The first variable of a difference.
-    fn first_difference(self) -> u32
+    pub(crate) fn first_difference(self) -> u32
         ensures is { result ≡ spec.first_difference self }
         ensures few { result ≤ 133378 }
     {
@@ -262,7 +250,7 @@ impl Shape {
         requires { q < 2 * spec.all_differences self }
         ensures { spec.Stands self (2 + 3 * spec.all_gates self + q) result }
     {
-        Place::Difference(self.difference(q / 2), DifferencePart::at(q % 2))
+        Place::Difference(q / 2, DifferencePart::at(q % 2))
     }
 
     // What clause c is about, if there is one.
