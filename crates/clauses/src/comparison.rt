@@ -88,19 +88,22 @@ impl<'a, O: Circuit, G: Circuit> Comparison<'a, O, G> {
     }
 
     // What literal x of a cycle is among the literals of the clauses: a flop is what its next literal is in the cycle before.
-    fn named(&self, step: Step, mut x: u32) -> u32
+    #[tactic(auto, using(circuits::proofs::Lookups::next_low, crate::proofs::Naming::own_unless_flop, crate::proofs::Naming::own_at_start, crate::proofs::Naming::flop_by_next))]
+    fn named(&self, step: Step, x: u32) -> u32
         requires early { step.cycle < self.now.shape.plan.cycles }
         requires of_cycle { OfCycle self.now step.half step.cycle x }
         ensures { result ≡ naming (names_in self.now step.half step.cycle) x }
     {
-        let Step { half, cycle } = step;
-        for t in (0..cycle).rev() {
-            let NetKind::Flop(flop) = self.shape.original.kind(x / 2) else {
-                return self.shape.own_literal(Step { half, cycle: t + 1 }, x);
-            };
-            x = inverted(self.running(Step { half, cycle: t }).next(flop), x % 2);
+        match self.shape.original.kind(x / 2) {
+            NetKind::Flop(flop) => match step.before() {
+                Some(before) => {
+                    let next = self.running(before).next(flop);
+                    inverted(self.named(before, next), x % 2)
+                }
+                None => self.shape.own_literal(step, x),
+            },
+            _ => self.shape.own_literal(step, x),
         }
-        self.shape.own_literal(Step { half, cycle: 0 }, x)
     }
 
     // What a row has where it is compared.

@@ -24,6 +24,19 @@ pub(crate) struct Step {
     ghost early: { cycle ≤ 8 },
 }
 
+impl Step {
+    ghost use Rattle.std.specs.Prelude.{◌+◌, MatchOption};
+
+    // The cycle before, if there is one.
+    pub(crate) fn before(self) -> Option<Step>
+        ensures { MatchOption result (self.cycle ≡ 0) (λ step. (step.half ≡ self.half) × (step.cycle + 1 ≡ self.cycle)) }
+    {
+        let Step { half, cycle } = self;
+        let cycle = cycle.checked_sub(1)?;
+        Some(Step { half, cycle })
+    }
+}
+
 // What the rows of a comparison are compared at.
 #[derive(Clone, Copy, Debug, PartialEq, Eq)]
 pub(crate) enum Difference {
