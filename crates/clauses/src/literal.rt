@@ -34,8 +34,8 @@ pub(crate) fn inverted(literal: u32, odd: u32) -> u32
     if odd == 0 { literal } else { negation(literal) }
 }
 
-// The clause of these literals.
-fn clause(literals: &[u32]) -> Clause
+// The clause that has these literals.
+fn clause_of(literals: &[u32]) -> Clause
     requires { length literals.now ≤ 3 }
     ensures { result.items ≡ literals.now }
 {
@@ -52,9 +52,9 @@ impl Defined {
     {
         let own = 2 * self.variable;
         match part {
-            GatePart::ImpliesLeft => clause(&[own + 1, self.left]),
-            GatePart::ImpliesRight => clause(&[own + 1, self.right]),
-            GatePart::Implied => clause(&[own, negation(self.left), negation(self.right)]),
+            GatePart::ImpliesLeft => clause_of(&[own + 1, self.left]),
+            GatePart::ImpliesRight => clause_of(&[own + 1, self.right]),
+            GatePart::Implied => clause_of(&[own, negation(self.left), negation(self.right)]),
         }
     }
 
@@ -64,8 +64,8 @@ impl Defined {
     {
         let own = 2 * self.variable;
         match part {
-            DifferencePart::OneTrue => clause(&[own + 1, self.left, self.right]),
-            DifferencePart::OneFalse => clause(&[
+            DifferencePart::OneTrue => clause_of(&[own + 1, self.left, self.right]),
+            DifferencePart::OneFalse => clause_of(&[
                 own + 1,
                 negation(self.left),
                 negation(self.right),
