@@ -1,3 +1,3 @@
 pub mod Gates
 mod Rows
-mod Naming
+pub mod Naming

@@ -1,10 +1,8 @@
 -- What a literal of a cycle is among the literals of the clauses.
-use Rattle.std.proofs.Common.{◌≡◌, ℕ, zero, suc, ◌+◌, ◌-◌, ◌*◌, ◌/◌, ◌%◌, ◌<◌, ◌≤◌, List, [], length, get_or, sym, refl, ap, ◌∙◌, subst, ap₂, inl, inr, arith}
+use Rattle.std.proofs.Common.{◌≡◌, ℕ, zero, suc, ◌+◌, ◌*◌, ◌/◌, ◌%◌, ◌<◌, ◌≤◌, List, [], length, get_or, sym, refl, ap, ◌∙◌, subst, ap₂, arith}
 use Rattle.std.proofs.lemmas.List.{take_all}
 use Rattle.std.proofs.lemmas.Bool.Decides.{nat_tests}
-use Rattle.std.proofs.lemmas.Bool.{cases_lt}
 use Rattle.circuits.specs.Net.{Net, Bounded, top, next_at, turned}
-use Rattle.circuits.proofs.Lookups.{next_low}
 use Rattle.comparisons.specs.Clauses.{negated, off, named, gate_count, start, input}
 use Rattle.comparisons.specs.Places.{net_at, flops_at, cycle_at}
 use Rattle.comparisons.proofs.Numbered.{nets_named, bits_named}
@@ -27,26 +25,6 @@ turned_even zero v l = omega arith
 turned_even (suc zero) v l = omega arith
 turned_even (suc (suc r)) v l = absurd (omega arith)
 
-negated_again : (r l : ℕ) → r < 2 → turned negated (1 - r) l ≡ negated (turned negated r l)
-negated_again zero l b = refl
-negated_again (suc zero) l b = omega arith
-negated_again (suc (suc r)) l b = absurd (omega arith)
-
-named_negated : (nets : List ℕ) (y : ℕ) → named nets (negated y) ≡ negated (named nets y)
-named_negated nets y =
-    let r : negated y % 2 ≡ 1 - y % 2 = omega arith in
-    let q : negated y / 2 ≡ y / 2 = omega arith in
-    ap₂ (λ m v. turned negated m (get_or nets v off)) r q ∙ negated_again (y % 2) (get_or nets (y / 2) off) (omega arith)
-
--- inversion carries through
-named_turned : (r : ℕ) (nets : List ℕ) (y : ℕ) → named nets (turned negated r y) ≡ turned negated r (named nets y)
-named_turned zero nets y = refl
-named_turned (suc r) nets y = named_negated nets y
-
-turned_low : (r y m : ℕ) → y ≤ 2 * m + 1 → turned negated r y ≤ 2 * m + 1
-turned_low zero y m l = l
-turned_low (suc r) y m l = omega arith
-
 -- the variable of each net
 module _ (s : Shape) (half : Half) (t : ℕ) where
   var_off : own_variable s half t 0 ≡ 1
@@ -58,7 +36,7 @@ module _ (s : Shape) (half : Half) (t : ℕ) where
   var_flop : (j : ℕ) → j < s.original.flops → own_variable s half t (1 + s.original.inputs + j) ≡ 2 + j
   var_flop j l = grind (arith, nat_tests)
 
-  var_gate : (g : ℕ) → own_variable s half t (1 + s.original.inputs + s.original.flops + g) ≡ gate_variable s half (record { cycle = t; at = g })
+  var_gate : (g : ℕ) → own_variable s half t (1 + s.original.inputs + s.original.flops + g) ≡ gate_variable s half t g
   var_gate g = grind (arith, nat_tests)
 
 module _ {c : Compared} (sizes : Sizes c) where
@@ -112,7 +90,7 @@ module _ {c : Compared} (sizes : Sizes c) where
     net_flop j l =
         ap (λ m. get_or Nets (1 + m + j) off) (sym sized.inputs_are) ∙ (nets_named net held (input I L t) z).of_flop j (omega (arith, sized.flops_are))
 
-    net_gate : (g : ℕ) → g < length net.operands → get_or Nets (1 + I + L + g) off ≡ 2 * gate_variable s half (record { cycle = t; at = g })
+    net_gate : (g : ℕ) → g < length net.operands → get_or Nets (1 + I + L + g) off ≡ 2 * gate_variable s half t g
     unfolding names_in
     net_gate g l =
         let before = count_before sizes half t (omega arith) in
@@ -140,19 +118,6 @@ module _ {c : Compared} (sizes : Sizes c) where
         let below : x ≤ top net.counts = subst (λ (n : Net). x ≤ top n.counts) (sym (runs_is sizes half t lt)) o in
         by_net x (1 + I + L + g) _ is (net_gate g (omega (arith, sized.inputs_are, sized.flops_are, bounded.operands_are))) (var_gate s half t g)
 
-    own_at_0 : (x : ℕ) → OfCycle c half t x → t ≡ 0 → own_literal s half t x ≡ named Nets x
-    own_at_0 x o e =
-        elim (cases_lt 0 (x / 2)) [
-          | inr none ↦ own x o False (omega arith) (λ j k. e)
-          | inl some ↦ elim (cases_lt I (x / 2)) [
-            | inr low ↦ own x o (Input (x / 2 - 1)) (omega arith, omega arith) (λ j k. e)
-            | inl high ↦ elim (cases_lt (I + L) (x / 2)) [
-              | inr within ↦ own x o (Flop (x / 2 - (1 + I))) (omega arith, omega arith) (λ j k. e)
-              | inl above ↦ own x o (Gate (x / 2 - (1 + I + L))) (omega arith) (λ j k. e)
-            ]
-          ]
-        ]
-
   -- a flop is what its next literal is in the cycle before
   flop_later : (half : Half) (t j : ℕ) → t < s.plan.cycles → j < L
       → get_or (flops_at (half_of c.original c.gated s.plan half) (start I L) (input I L) (first_of c half) (suc t)) j off
@@ -161,18 +126,12 @@ module _ {c : Compared} (sizes : Sizes c) where
   flop_later Left t j l k = (rows_placed sizes []).of_left.flop_later t j (omega (arith, length_half sizes Left)) k
   flop_later Right t j l k = (rows_placed sizes []).of_right.flop_later t j (omega (arith, length_half sizes Right)) k
 
-  down : (half : Half) (t x j : ℕ) → suc t < s.plan.cycles → IsKind s.original (x / 2) (Flop j)
-      → named (names_in c half t) (turned negated (x % 2) (next_at (runs c half t) j)) ≡ named (names_in c half (suc t)) x
-  down half t x j lt is =
-      let Nets = names_in c half t in
-      let by_side = ap (λ (n : Net). named Nets (next_at n j)) (runs_is sizes half t (omega arith)) in
+  later : (half : Half) (t x j : ℕ) → suc t < s.plan.cycles → IsKind s.original (x / 2) (Flop j)
+      → turned negated (x % 2) (named (names_in c half t) (next_at (runs c half t) j)) ≡ named (names_in c half (suc t)) x
+  later half t x j lt is =
+      let by_side = ap (λ (n : Net). named (names_in c half t) (next_at n j)) (runs_is sizes half t (omega arith)) in
       let held = ap (λ v. get_or (names_in c half (suc t)) v off) is.1 ∙ net_flop half (suc t) lt j is.0 ∙ flop_later half t j (omega arith) is.0 in
-      named_turned (x % 2) Nets (next_at (runs c half t) j) ∙ ap (turned negated (x % 2)) (sym (held ∙ by_side))
-
-  down_low : (half : Half) (t x j : ℕ) → OfCycle c half t (turned negated (x % 2) (next_at (runs c half t) j))
-  down_low half t x j =
-      let n = runs c half t in
-      turned_low (x % 2) (next_at n j) (n.counts.inputs + n.counts.flops + n.counts.gates) (next_low n (on_bounded sizes (side_in s.plan half t)) j)
+      ap (turned negated (x % 2)) (sym (held ∙ by_side))
 
 -- of a comparison c that code holds as v
 module _ {v c : Compared} (is : v ≡ c) (original : Bounded v.original) (gated : Bounded v.gated) (are : AreSizes v.original.counts v.gated.counts v.fixed v.shape) where
@@ -182,24 +141,27 @@ module _ {v c : Compared} (is : v ≡ c) (original : Bounded v.original) (gated 
   shape : v.shape ≡ c.shape
   shape = ap (λ (w : Compared). w.shape) is
 
+  own_is : (half : Half) (t x : ℕ) → t < c.shape.plan.cycles → OfCycle c half t x
+      → (kind : NetKind) → IsKind v.shape.original (x / 2) kind → ((j : ℕ) → kind ≡ Flop j → t ≡ 0)
+      → own_literal v.shape half t x ≡ named (names_in c half t) x
+  own_is half t x lt o kind k start_flop =
+      ap (λ s. own_literal s half t x) shape
+      ∙ own sizes half t lt x o kind (subst (λ (s : Shape). IsKind s.original (x / 2) kind) shape k) start_flop
+
   pub own_unless_flop : (half : Half) (t x : ℕ) → t < c.shape.plan.cycles → OfCycle c half t x
       → (kind : NetKind) → IsKind v.shape.original (x / 2) kind → ((j : ℕ) → kind ≡ Flop j → ⊥)
       → own_literal v.shape half t x ≡ named (names_in c half t) x
-  own_unless_flop half t x lt o kind k no_flop =
-      ap (λ s. own_literal s half t x) shape
-      ∙ own sizes half t lt x o kind (subst (λ (s : Shape). IsKind s.original (x / 2) kind) shape k) (λ j e. absurd (no_flop j e))
+  own_unless_flop half t x lt o kind k no_flop = own_is half t x lt o kind k (λ j e. absurd (no_flop j e))
 
-  pub own_at_start : (half : Half) (t x : ℕ) → t ≡ 0 → OfCycle c half t x → own_literal v.shape half 0 x ≡ named (names_in c half t) x
-  own_at_start half t x e o =
-      ap₂ (λ s u. own_literal s half u x) shape (sym e) ∙ own_at_0 sizes half t (omega (arith, e, c.shape.in_time.some_cycle)) x o e
+  pub own_at_start : (half : Half) (t x : ℕ) → OfCycle c half t x → t ≡ 0
+      → (kind : NetKind) → IsKind v.shape.original (x / 2) kind
+      → own_literal v.shape half t x ≡ named (names_in c half t) x
+  own_at_start half t x o start kind k = own_is half t x (omega (arith, c.shape.in_time.some_cycle)) o kind k (λ j e. start)
 
-  -- one cycle down, from what a loop has that counts t
-  pub stepped : (half : Half) (t x j r : ℕ) → 0 < t → t < c.shape.plan.cycles → IsKind v.shape.original (x / 2) (Flop j)
-      → r ≡ turned negated (x % 2) (next_at (runs c half (t - 1)) j)
-      → OfCycle c half (t - 1) r × (named (names_in c half (t - 1)) r ≡ named (names_in c half t) x)
-  stepped half t x j r h l k e =
-      let up : suc (t - 1) ≡ t = omega arith in
-      let flop = subst (λ (s : Shape). IsKind s.original (x / 2) (Flop j)) shape k in (
-        subst (λ y. OfCycle c half (t - 1) y) (sym e) (down_low sizes half (t - 1) x j),
-        ap (named (names_in c half (t - 1))) e ∙ down sizes half (t - 1) x j (omega arith) flop ∙ ap (λ u. named (names_in c half u) x) up,
-      )
+  -- a flop after cycle 0
+  pub flop_by_next : (half : Half) (before t x j : ℕ) → before + 1 ≡ t → t < c.shape.plan.cycles → IsKind v.shape.original (x / 2) (Flop j)
+      → turned negated (x % 2) (named (names_in c half before) (next_at (runs c half before) j)) ≡ named (names_in c half t) x
+  flop_by_next half before t x j e lt k =
+      let up : suc before ≡ t = omega arith in
+      let flop = subst (λ (s : Shape). IsKind s.original (x / 2) (Flop j)) shape k in
+      later sizes half before x j (omega arith) flop ∙ ap (λ u. named (names_in c half u) x) up

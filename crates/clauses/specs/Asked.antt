@@ -1,5 +1,5 @@
 -- The clauses of a comparison, as code answers them: by what a clause is about.
-use Rattle.std.specs.Prelude.{ℕ, ◌-◌, ◌≤◌, List, [], ◌∷◌, slice_index}
+use Rattle.std.specs.Prelude.{ℕ, ◌+◌, ◌-◌, ◌≤◌, List, [], ◌∷◌, slice_index}
 use Rattle.circuits.specs.Net.{Net, top, gate_at, next_at, out_at}
 use Rattle.comparisons.specs.Clauses.{named, vars, start, input, left_gates, right_gates}
 use Rattle.comparisons.specs.Places.{gate_clause, difference_clause, names_at}
@@ -16,7 +16,7 @@ use Rattle.clauses.specs.declared.shape.Place.TheVariants.{Constant, Gate, Diffe
 use Rattle.clauses.specs.declared.shape.Difference.{Difference}
 use Rattle.clauses.specs.declared.shape.Difference.TheVariants.{Output, Final}
 use Rattle.clauses.specs.Plans.{side_in, on, left_of, half_of}
-use Rattle.clauses.specs.Shapes.{gate_variable, first_difference, difference_variable, all_differences}
+use Rattle.clauses.specs.Shapes.{gate_variable, first_difference, difference_at, all_differences}
 
 -- two circuits, the sizes of their comparison, and the literals of the start bits that are fixed
 pub record Compared : Type 0 where
@@ -53,15 +53,17 @@ module _ (c : Compared) where
   abbrev pub gate_clause_of : Half → Spot → GatePart → List ℕ
   gate_clause_of half spot part =
       let g = gate_at (runs half spot.cycle) spot.at in
-      gate_clause (gate_part part) (gate_variable c.shape half spot) (named (names_in half spot.cycle) g.0) (named (names_in half spot.cycle) g.1)
+      gate_clause (gate_part part) (gate_variable c.shape half spot.cycle spot.at) (named (names_in half spot.cycle) g.0) (named (names_in half spot.cycle) g.1)
 
-  abbrev pub difference_clause_of : Difference → DifferencePart → List ℕ
-  difference_clause_of d part = difference_clause (difference_part part) (difference_variable c.shape d) (compared_of Left d) (compared_of Right d)
+  abbrev pub difference_clause_of : ℕ → DifferencePart → List ℕ
+  difference_clause_of e part =
+      let d = difference_at c.shape e in
+      difference_clause (difference_part part) (first_difference c.shape + e) (compared_of Left d) (compared_of Right d)
 
   abbrev pub clause_of : Place → List ℕ
   clause_of Constant = 3 ∷ []
   clause_of (Gate half spot part) = gate_clause_of half spot part
-  clause_of (Differing d part) = difference_clause_of d part
+  clause_of (Differing e part) = difference_clause_of e part
   clause_of Differences = vars (all_differences c.shape) (first_difference c.shape)
   clause_of (Fixed k) = slice_index c.fixed k ∷ []
 
@@ -74,6 +76,6 @@ gate_length Implied = 3
 abbrev pub length_of : Shape → Place → ℕ
 length_of s Constant = 1
 length_of s (Gate half spot part) = gate_length part
-length_of s (Differing d part) = 3
+length_of s (Differing e part) = 3
 length_of s Differences = all_differences s
 length_of s (Fixed k) = 1

@@ -1,5 +1,5 @@
 -- The sizes of a comparison in numbers, as code sees them.
-use Rattle.std.specs.Prelude.{◌≡◌, ℕ, ◌+◌, ◌-◌, ◌*◌, ◌/◌, ◌%◌, ◌<◌, min, if◌then◌else◌, ◌⊎◌, List, length, Option, MatchOption, ◌==◌, nat_le}
+use Rattle.std.specs.Prelude.{◌≡◌, ℕ, ◌+◌, ◌-◌, ◌*◌, ◌/◌, ◌%◌, ◌<◌, min, if◌then◌else◌, ◌⊎◌, List, length, Option, MatchOption, ◌==◌, nat_le, nat_lt}
 use Rattle.circuits.specs.declared.counts.Counts.{Counts}
 use Rattle.circuits.specs.declared.side.Side.{Side}
 use Rattle.circuits.specs.declared.side.Side.TheVariants.{Original, Gated}
@@ -58,10 +58,16 @@ module _ (s : Shape) where
   abbrev pub all_differences : ℕ
   all_differences = all_outputs + s.original.flops
 
-  -- what rows of these sizes are compared at, and its number among the differences
+  -- what rows of these sizes are compared at
   abbrev pub IsDifferenceOf : Difference → Type 0
   IsDifferenceOf (Output spot) = (spot.cycle < s.plan.cycles) × (spot.at < s.original.outputs)
   IsDifferenceOf (Final flop) = flop < s.original.flops
+
+  -- difference e, and back its number
+  abbrev pub difference_at : ℕ → Difference
+  difference_at e =
+      let outs = s.original.outputs in
+      if nat_lt e all_outputs then Output (record { cycle = e / outs; at = e % outs }) else Final (e - all_outputs)
 
   abbrev pub difference_number : Difference → ℕ
   difference_number (Output spot) = spot.cycle * s.original.outputs + spot.at
@@ -71,14 +77,11 @@ module _ (s : Shape) where
   abbrev pub first_gate : ℕ
   first_gate = 2 + s.original.flops + s.plan.cycles * s.original.inputs
 
-  abbrev pub gate_variable : Half → Spot → ℕ
-  gate_variable half spot = first_gate + gates_ahead half + gates_before half spot.cycle + spot.at
+  abbrev pub gate_variable : Half → ℕ → ℕ → ℕ
+  gate_variable half t at = first_gate + gates_ahead half + gates_before half t + at
 
   abbrev pub first_difference : ℕ
   first_difference = first_gate + all_gates
-
-  abbrev pub difference_variable : Difference → ℕ
-  difference_variable d = first_difference + difference_number d
 
   abbrev pub all_variables : ℕ
   all_variables = first_difference + all_differences - 1
@@ -94,7 +97,7 @@ module _ (s : Shape) where
       if net == 0 then 1
       else (if nat_le net I then 1 + L + t * I + net
       else (if nat_le net (I + L) then 1 + net - I
-      else gate_variable half (record { cycle = t; at = net - (1 + I + L) })))
+      else gate_variable half t (net - (1 + I + L))))
 
   abbrev pub own_literal : Half → ℕ → ℕ → ℕ
   own_literal half t x = 2 * own_variable half t (x / 2) + x % 2
@@ -105,7 +108,7 @@ module _ (s : Shape) where
   Stands c (Gate half spot part) =
       (spot.cycle < s.plan.cycles) × (spot.at < gates_in half spot.cycle)
       × (c ≡ 2 + 3 * (gates_ahead half + (gates_before half spot.cycle + spot.at)) + gate_part part)
-  Stands c (Differing d part) = IsDifferenceOf d × (c ≡ 2 + 3 * all_gates + 2 * difference_number d + difference_part part)
+  Stands c (Differing e part) = (e < all_differences) × (c ≡ 2 + 3 * all_gates + 2 * e + difference_part part)
   Stands c Differences = c ≡ 2 + 3 * all_gates + 2 * all_differences
   Stands c (Fixed k) = (k < s.fixed) × (c ≡ 3 + 3 * all_gates + 2 * all_differences + k)
 

@@ -1,17 +1,17 @@
-// A comparison of two circuits of any kinds: the literals of its clauses about gates and about differences. No list is built.
-ghost use Rattle.std.specs.Prelude.{◌≡◌, ◌<◌, ◌≤◌, ◌↔◌, ◌&&◌, IsTrue, IsSome, IfSome, slice_index};
+// A comparison of two circuits of any kinds: its clauses about gates and about differences.
+ghost use Rattle.std.specs.Prelude.{◌≡◌, ◌<◌, ◌≤◌, ◌↔◌, ◌&&◌, IsTrue, IsSome, IfSome};
 ghost use Rattle.comparisons.specs.Clauses.{named as naming};
 ghost use Rattle.comparisons.specs.Opening as opening;
 ghost use Rattle.clauses.specs.Plans.{in_time};
-ghost use Rattle.clauses.specs.Shapes.{IsDifferenceOf};
+ghost use Rattle.clauses.specs.Shapes.{IsDifferenceOf, all_differences};
 ghost use Rattle.clauses.specs.Asked.{runs, OfCycle, names_in, compared_of, gate_clause_of, difference_clause_of};
 
 use crate::fixed::Fixed;
-use crate::literal::{difference_literal, gate_literal, inverted};
+use crate::literal::{Clause, Defined, inverted};
 use crate::part::{DifferencePart, GatePart};
 use crate::plan::{Half, Plan};
 use crate::running::Running;
-use crate::shape::{Difference, Shape, Spot};
+use crate::shape::{Difference, Shape, Spot, Step};
 use circuits::circuit::{Circuit, Gate};
 use circuits::counts::Counts;
 use circuits::kind::NetKind;
@@ -77,29 +77,33 @@ impl<'a, O: Circuit, G: Circuit> Comparison<'a, O, G> {
         })
     }
 
-    // The circuit that runs in cycle t of a row.
-    fn running(&self, half: Half, t: u32) -> Running<'a, O, G>
-        ensures { ⟦<Running<'a, O, G> as Circuit>⟧.meaning result ≡ runs self.now half t }
+    // The circuit that runs in a cycle.
+    fn running(&self, step: Step) -> Running<'a, O, G>
+        ensures { ⟦<Running<'a, O, G> as Circuit>⟧.meaning result ≡ runs self.now step.half step.cycle }
     {
-        match self.shape.plan.row(half).side(t) {
+        match self.shape.plan.row(step.half).side(step.cycle) {
             Side::Original => Running::Original(self.original),
             Side::Gated => Running::Gated(self.gated),
         }
     }
 
-    // What literal x of cycle t of a row is among the literals of the clauses: a flop is what its next literal is in the cycle before.
-    fn named(&self, half: Half, cycle: u32, mut x: u32) -> u32
-        requires early { cycle < self.now.shape.plan.cycles }
-        requires of_cycle { OfCycle self.now half cycle x }
-        ensures { result ≡ naming (names_in self.now half cycle) x }
+    // What literal x of a cycle is among the literals of the clauses: a flop is what its next literal is in the cycle before.
+    #[tactic(auto, using(circuits::proofs::Lookups::next_low, crate::proofs::Naming::own_unless_flop, crate::proofs::Naming::own_at_start, crate::proofs::Naming::flop_by_next))]
+    fn named(&self, step: Step, x: u32) -> u32
+        requires early { step.cycle < self.now.shape.plan.cycles }
+        requires of_cycle { OfCycle self.now step.half step.cycle x }
+        ensures { result ≡ naming (names_in self.now step.half step.cycle) x }
     {
-        for t in (0..cycle).rev() {
-            let NetKind::Flop(flop) = self.shape.original.kind(x / 2) else {
-                return self.shape.own_literal(half, t + 1, x);
-            };
-            x = inverted(self.running(half, t).next(flop), x % 2);
+        match self.shape.original.kind(x / 2) {
+            NetKind::Flop(flop) => match step.before() {
+                Some(before) => {
+                    let next = self.running(before).next(flop);
+                    inverted(self.named(before, next), x % 2)
+                }
+                None => self.shape.own_literal(step, x),
+            },
+            _ => self.shape.own_literal(step, x),
         }
-        self.shape.own_literal(half, 0, x)
     }
 
     // What a row has where it is compared.
@@ -109,37 +113,46 @@ impl<'a, O: Circuit, G: Circuit> Comparison<'a, O, G> {
     {
         match difference {
             Difference::Output(Spot { cycle, at }) => {
-                self.named(half, cycle, self.running(half, cycle).out(at))
+                let step = Step { half, cycle };
+                self.named(step, self.running(step).out(at))
             }
             Difference::Final(flop) => {
-                let last = self.shape.plan.cycles - 1;
-                self.named(half, last, self.running(half, last).next(flop))
+                let cycle = self.shape.plan.cycles - 1;
+                let last = Step { half, cycle };
+                self.named(last, self.running(last).next(flop))
             }
         }
     }
 
-    // Literal i of a clause about a gate.
+    // A clause about a gate.
     #[tactic(auto, using(circuits::proofs::Lookups::gate_low))]
-    fn gate_literal(&self, half: Half, spot: Spot, part: GatePart, i: u32) -> u32
+    fn gate_clause(&self, half: Half, spot: Spot, part: GatePart) -> Clause
         requires early { spot.cycle < self.now.shape.plan.cycles }
         requires low { spot.at < 8192 }
-        ensures { result ≡ slice_index (gate_clause_of self.now half spot part) i }
+        ensures { result.items ≡ gate_clause_of self.now half spot part }
     {
-        let variable = self.shape.gate_variable(half, spot);
-        let Gate { left, right } = self.running(half, spot.cycle).gate(spot.at);
-        let left = self.named(half, spot.cycle, left);
-        let right = self.named(half, spot.cycle, right);
-        gate_literal(variable, left, right, part, i)
+        let Spot { cycle, at } = spot;
+        let step = Step { half, cycle };
+        let Gate { left, right } = self.running(step).gate(at);
+        let gate = Defined {
+            variable: self.shape.gate_variable(step, at),
+            left: self.named(step, left),
+            right: self.named(step, right),
+        };
+        gate.gate_clause(part)
     }
 
-    // Literal i of a clause about a difference.
-    fn difference_literal(&self, difference: Difference, part: DifferencePart, i: u32) -> u32
-        requires { IsDifferenceOf self.now.shape difference }
-        ensures { result ≡ slice_index (difference_clause_of self.now difference part) i }
+    // A clause about difference e.
+    fn difference_clause(&self, e: u32, part: DifferencePart) -> Clause
+        requires { e < all_differences self.now.shape }
+        ensures { result.items ≡ difference_clause_of self.now e part }
     {
-        let variable = self.shape.difference_variable(difference);
-        let left = self.compared(Half::Left, difference);
-        let right = self.compared(Half::Right, difference);
-        difference_literal(variable, left, right, part, i)
+        let difference = self.shape.difference(e);
+        let compared = Defined {
+            variable: self.shape.first_difference() + e,
+            left: self.compared(Half::Left, difference),
+            right: self.compared(Half::Right, difference),
+        };
+        compared.difference_clause(part)
     }
 }

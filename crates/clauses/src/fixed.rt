@@ -6,6 +6,7 @@ use circuits::counts::FLOPS;
 use std::marker::Model;
 
 // The literals of the bits, in order. They are worked out, so no caller lends them, and no library here uses the heap.
+// An array with a length beside it, since an `ArrayVec` is not `Copy`.
 #[derive(Clone, Copy, Debug, PartialEq, Eq)]
 pub struct Fixed {
     // zeros from `count` on, so that equal bits are equal in memory

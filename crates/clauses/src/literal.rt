@@ -1,11 +1,25 @@
-// Literals of clauses: 2v is variable v, and 2v + 1 its negation. A clause is written out where a literal of it is asked for.
-ghost use Rattle.std.specs.Prelude.{◌≡◌, ◌<◌, ◌^◌, slice_index};
+// Literals of clauses, 2v of variable v and 2v + 1 of its negation, and the clauses about a gate and about a difference.
+ghost use Rattle.std.specs.Prelude.{◌≡◌, ◌<◌, ◌≤◌, ◌^◌, length};
 ghost use Rattle.circuits.specs.Net.{turned};
 ghost use Rattle.comparisons.specs.Clauses.{negated};
 ghost use Rattle.comparisons.specs.Places.{gate_clause, difference_clause};
 ghost use Rattle.clauses.specs.Parts.{gate_part, difference_part};
 
 use crate::part::{DifferencePart, GatePart};
+use arrayvec::ArrayVec;
+
+// The literals of a clause about a gate or a difference: two or three.
+pub(crate) type Clause = ArrayVec<u32, 3>;
+
+// A variable that a gate or a difference has, and the two literals that it is about.
+#[derive(Clone, Copy, Debug, PartialEq, Eq)]
+pub(crate) struct Defined {
+    pub(crate) variable: u32,
+    pub(crate) left: u32,
+    pub(crate) right: u32,
+    // so that its literals fit in 32 bits
+    ghost few: { variable < 2 ^ 31 },
+}
 
 fn negation(literal: u32) -> u32
     ensures { result ≡ negated literal }
@@ -20,40 +34,42 @@ pub(crate) fn inverted(literal: u32, odd: u32) -> u32
     if odd == 0 { literal } else { negation(literal) }
 }
 
-// Literal i of a clause; past the end 0.
-fn literal_at(clause: &[u32], i: u32) -> u32
-    ensures { result ≡ slice_index clause.now i }
+// The clause that has these literals.
+fn clause_of(literals: &[u32]) -> Clause
+    requires { length literals.now ≤ 3 }
+    ensures { result.items ≡ literals.now }
 {
-    clause.get(i as usize).copied().unwrap_or(0)
+    let Ok(clause) = Clause::try_from(literals) else {
+        unreachable!();
+    };
+    clause
 }
 
-// Literal i of a clause about a gate with this variable, whose operands are two literals.
-pub(crate) fn gate_literal(variable: u32, left: u32, right: u32, part: GatePart, i: u32) -> u32
-    requires { variable < 2 ^ 31 }
-    ensures { result ≡ slice_index (gate_clause (gate_part part) variable left right) i }
-{
-    let own = 2 * variable;
-    match part {
-        GatePart::ImpliesLeft => literal_at(&[own + 1, left], i),
-        GatePart::ImpliesRight => literal_at(&[own + 1, right], i),
-        GatePart::Implied => literal_at(&[own, negation(left), negation(right)], i),
+impl Defined {
+    // A clause about a gate, of which these are the operands.
+    pub(crate) fn gate_clause(self, part: GatePart) -> Clause
+        ensures { result.items ≡ gate_clause (gate_part part) self.variable self.left self.right }
+    {
+        let own = 2 * self.variable;
+        match part {
+            GatePart::ImpliesLeft => clause_of(&[own + 1, self.left]),
+            GatePart::ImpliesRight => clause_of(&[own + 1, self.right]),
+            GatePart::Implied => clause_of(&[own, negation(self.left), negation(self.right)]),
+        }
     }
-}
 
-// Literal i of a clause about the difference of two literals, which has this variable.
-pub(crate) fn difference_literal(
-    variable: u32,
-    left: u32,
-    right: u32,
-    part: DifferencePart,
-    i: u32,
-) -> u32
-    requires { variable < 2 ^ 31 }
-    ensures { result ≡ slice_index (difference_clause (difference_part part) variable left right) i }
-{
-    let own = 2 * variable;
-    match part {
-        DifferencePart::OneTrue => literal_at(&[own + 1, left, right], i),
-        DifferencePart::OneFalse => literal_at(&[own + 1, negation(left), negation(right)], i),
+    // A clause about the difference of the two.
+    pub(crate) fn difference_clause(self, part: DifferencePart) -> Clause
+        ensures { result.items ≡ difference_clause (difference_part part) self.variable self.left self.right }
+    {
+        let own = 2 * self.variable;
+        match part {
+            DifferencePart::OneTrue => clause_of(&[own + 1, self.left, self.right]),
+            DifferencePart::OneFalse => clause_of(&[
+                own + 1,
+                negation(self.left),
+                negation(self.right),
+            ]),
+        }
     }
 }

@@ -16,9 +16,30 @@ pub struct Spot {
     pub at: u32,
 }
 
+// A cycle of a row, or the end of the row; no row has more than 8 cycles.
+#[derive(Clone, Copy, Debug, PartialEq, Eq)]
+pub(crate) struct Step {
+    pub(crate) half: Half,
+    pub(crate) cycle: u32,
+    ghost early: { cycle ≤ 8 },
+}
+
+impl Step {
+    ghost use Rattle.std.specs.Prelude.{◌+◌, MatchOption};
+
+    // The cycle before, if there is one.
+    pub(crate) fn before(self) -> Option<Step>
+        ensures { MatchOption result (self.cycle ≡ 0) (λ step. (step.half ≡ self.half) × (step.cycle + 1 ≡ self.cycle)) }
+    {
+        let Step { half, cycle } = self;
+        let cycle = cycle.checked_sub(1)?;
+        Some(Step { half, cycle })
+    }
+}
+
 // What the rows of a comparison are compared at.
 #[derive(Clone, Copy, Debug, PartialEq, Eq)]
-pub enum Difference {
+pub(crate) enum Difference {
     // an output in a cycle
     Output(Spot),
     // the final bit of a flop
@@ -47,8 +68,8 @@ pub enum Place {
     Constant,
     // a gate in a cycle of a row
     Gate(Half, Spot, GatePart),
-    // what the rows are compared at
-    Difference(Difference, DifferencePart),
+    // a difference, by its number
+    Difference(u32, DifferencePart),
     // that there is a difference
     Differences,
     // a start bit that is fixed
@@ -71,15 +92,15 @@ impl Shape {
         }
     }
 
-    // How many gates the first t cycles of a row have.
-    fn gates_before(self, half: Half, t: u32) -> u32
-        requires { t ≤ 8 }
-        ensures is { result ≡ spec.gates_before self half t }
+    // How many gates the cycles of the row before this one have.
+    fn gates_before(self, step: Step) -> u32
+        ensures is { result ≡ spec.gates_before self step.half step.cycle }
         ensures few { result ≤ 65536 }
     {
+        let Step { half, cycle } = step;
         let Row { front, turn } = self.plan.row(half);
-        let fronts = t.min(turn) * self.gates_on(front);
-        fronts + t.saturating_sub(turn) * self.gates_on(front.other())
+        let fronts = cycle.min(turn) * self.gates_on(front);
+        fronts + cycle.saturating_sub(turn) * self.gates_on(front.other())
     }
 
     // How many gates a row has.
@@ -87,7 +108,10 @@ impl Shape {
         ensures is { result ≡ spec.gates_in_row self half }
         ensures few { result ≤ 65536 }
     {
-        self.gates_before(half, self.plan.cycles)
+        self.gates_before(Step {
+            half,
+            cycle: self.plan.cycles,
+        })
     }
 
     // Where gate g of a row stands.
@@ -157,19 +181,18 @@ impl Shape {
     }
 
     // The variable of a gate. No net is past the 8,704th, so neither is a gate. A literal is twice a variable, and has to fit in 32 bits.
-    pub(crate) fn gate_variable(self, half: Half, spot: Spot) -> u32
-        requires early { spot.cycle ≤ 8 }
-        requires low { spot.at ≤ 8704 }
-        ensures is { result ≡ spec.gate_variable self half spot }
+    pub(crate) fn gate_variable(self, step: Step, at: u32) -> u32
+        requires { at ≤ 8704 }
+        ensures is { result ≡ spec.gate_variable self step.half step.cycle at }
         ensures few { result < 2 ^ 31 }
     {
-        let before = self.gates_before(half, spot.cycle);
-        self.first_gate() + self.gates_ahead(half) + before + spot.at
+        self.first_gate() + self.gates_ahead(step.half) + self.gates_before(step) + at
     }
 
     // Difference e.
-    fn difference(self, e: u32) -> Difference
+    pub(crate) fn difference(self, e: u32) -> Difference
         requires { e < spec.all_differences self }
+        ensures is { result ≡ spec.difference_at self e }
         ensures of { spec.IsDifferenceOf self result }
         ensures number { spec.difference_number self result ≡ e }
     {
@@ -183,21 +206,8 @@ impl Shape {
         })
     }
 
-    // The variable of a difference.
-    pub(crate) fn difference_variable(self, difference: Difference) -> u32
-        requires { spec.IsDifferenceOf self difference }
-        ensures is { result ≡ spec.difference_variable self difference }
-        ensures few { result < 2 ^ 31 }
-    {
-        self.first_difference()
-            + match difference {
-                Difference::Output(spot) => spot.cycle * self.original.outputs + spot.at,
-                Difference::Final(flop) => self.outputs() + flop,
-            }
-    }
-
     // The first variable of a difference.
-    fn first_difference(self) -> u32
+    pub(crate) fn first_difference(self) -> u32
         ensures is { result ≡ spec.first_difference self }
         ensures few { result ≤ 133378 }
     {
@@ -218,19 +228,18 @@ impl Shape {
         2 + 3 * self.gates() + 2 * self.differences() + self.fixed
     }
 
-    // What a literal of cycle t is among those of the clauses, unless it names a flop after cycle 0.
+    // What a literal of a cycle is among those of the clauses, unless it names a flop after cycle 0.
     // The largest is the inverse of net 8,704.
-    pub(crate) fn own_literal(self, half: Half, t: u32, x: u32) -> u32
-        requires early { t ≤ 8 }
-        requires low { x ≤ 17409 }
-        ensures { result ≡ spec.own_literal self half t x }
+    pub(crate) fn own_literal(self, step: Step, x: u32) -> u32
+        requires { x ≤ 17409 }
+        ensures { result ≡ spec.own_literal self step.half step.cycle x }
     {
         let Counts { inputs, flops, .. } = self.original;
         let variable = match self.original.kind(x / 2) {
             NetKind::False => 1,
-            NetKind::Input(input) => 2 + flops + t * inputs + input,
+            NetKind::Input(input) => 2 + flops + step.cycle * inputs + input,
             NetKind::Flop(flop) => 2 + flop,
-            NetKind::Gate(at) => self.gate_variable(half, Spot { cycle: t, at }),
+            NetKind::Gate(at) => self.gate_variable(step, at),
         };
         2 * variable + x % 2
     }
@@ -254,7 +263,7 @@ impl Shape {
         requires { q < 2 * spec.all_differences self }
         ensures { spec.Stands self (2 + 3 * spec.all_gates self + q) result }
     {
-        Place::Difference(self.difference(q / 2), DifferencePart::at(q % 2))
+        Place::Difference(q / 2, DifferencePart::at(q % 2))
     }
 
     // What clause c is about, if there is one.
