@@ -7,7 +7,7 @@ ghost use Rattle.clauses.specs.Shapes.{IsDifferenceOf, all_differences};
 ghost use Rattle.clauses.specs.Asked.{runs, OfCycle, names_in, compared_of, gate_clause_of, difference_clause_of};
 
 use crate::fixed::Fixed;
-use crate::literal::{Clause, Defined, inverted};
+use crate::literal::{Clause, Defined, inverted_as};
 use crate::part::{DifferencePart, GatePart};
 use crate::plan::{Half, Plan};
 use crate::running::Running;
@@ -98,7 +98,7 @@ impl<'a, O: Circuit, G: Circuit> Comparison<'a, O, G> {
             NetKind::Flop(flop) => match step.before() {
                 Some(before) => {
                     let next = self.running(before).next(flop);
-                    inverted(self.named(before, next), x % 2)
+                    inverted_as(self.named(before, next), x)
                 }
                 None => self.shape.own_literal(step, x),
             },

@@ -1,5 +1,5 @@
 // Literals of clauses, 2v of variable v and 2v + 1 of its negation, and the clauses about a gate and about a difference.
-ghost use Rattle.std.specs.Prelude.{◌≡◌, ◌<◌, ◌≤◌, ◌^◌, length};
+ghost use Rattle.std.specs.Prelude.{◌≡◌, ◌%◌, ◌<◌, ◌≤◌, ◌^◌, length};
 ghost use Rattle.circuits.specs.Net.{turned};
 ghost use Rattle.comparisons.specs.Clauses.{negated};
 ghost use Rattle.comparisons.specs.Places.{gate_clause, difference_clause};
@@ -27,11 +27,15 @@ fn negation(literal: u32) -> u32
     literal ^ 1
 }
 
-// A literal, inverted where `odd` is not 0; that is what is left of another literal by 2.
-pub(crate) fn inverted(literal: u32, odd: u32) -> u32
-    ensures { result ≡ turned negated odd literal }
+// A literal, inverted where another is.
+pub(crate) fn inverted_as(literal: u32, other: u32) -> u32
+    ensures { result ≡ turned negated (other % 2) literal }
 {
-    if odd == 0 { literal } else { negation(literal) }
+    if other % 2 == 0 {
+        literal
+    } else {
+        negation(literal)
+    }
 }
 
 // The clause that has these literals.
