@@ -6,6 +6,7 @@ use Rattle.clauses.specs.declared.plan.Half.{Half}
 use Rattle.clauses.specs.declared.plan.Half.TheVariants.{Left, Right}
 use Rattle.clauses.specs.declared.plan.Row.{Row}
 use Rattle.clauses.specs.declared.shape.Shape.{Shape}
+use Rattle.clauses.specs.declared.shape.Spot.{Spot}
 use Rattle.circuits.specs.Sides.{other_side}
 use Rattle.clauses.specs.Plans.{half_row, side_at}
 use Rattle.clauses.specs.Shapes.{gates_on, gates_in_row, Spots}
@@ -48,8 +49,8 @@ module _ (s : Shape) (half : Half) where
   back = gates_on s (other_side r.front)
 
   -- gate g stands in a cycle before the turn, or after it
-  pub spot_front : (g : ℕ) → g < r.turn * front → Spots s half g (record { cycle = g / front; at = g % front })
-  spot_front g b =
+  front_spot : (g : ℕ) → g < r.turn * front → Spots s half g (record { cycle = g / front; at = g % front })
+  front_spot g b =
       let some = factor g r.turn front b in
       let early : g / front < r.turn = div_below g front r.turn some b in
       let turned = turns s half in
@@ -79,6 +80,10 @@ module _ (s : Shape) (half : Half) where
       }
 
   -- where there are so many gates in each cycle
-  pub spot_back : (fronts backs g : ℕ) → fronts ≡ front → backs ≡ back → r.turn * fronts ≤ g → g < gates_in_row s half
-      → Spots s half g (record { cycle = r.turn + (g - r.turn * fronts) / backs; at = (g - r.turn * fronts) % backs })
-  spot_back fronts backs g f k b h = rw (f, k) (back_spot g (rw f at b) h)
+  pub spot_front : (fronts g : ℕ) (spot : Spot) → fronts ≡ front → spot ≡ record { cycle = g / fronts; at = g % fronts } → g < r.turn * fronts → Spots s half g spot
+  spot_front fronts g spot f is b = rw (is, f) (front_spot g (rw f at b))
+
+  pub spot_back : (fronts backs g : ℕ) (rest : Spot) → fronts ≡ front → backs ≡ back
+      → rest ≡ record { cycle = (g - r.turn * fronts) / backs; at = (g - r.turn * fronts) % backs }
+      → r.turn * fronts ≤ g → g < gates_in_row s half → Spots s half g (record { cycle = r.turn + rest.cycle; at = rest.at })
+  spot_back fronts backs g rest f k is b h = rw (is, f, k) (back_spot g (rw f at b) h)

@@ -1,3 +1,4 @@
 pub mod Gates
+pub mod Differences
 mod Rows
 pub mod Naming

@@ -73,6 +73,11 @@ module _ (s : Shape) where
   difference_number (Output spot) = spot.cycle * s.original.outputs + spot.at
   difference_number (Final flop) = all_outputs + flop
 
+  -- d is the one difference of number e
+  pub record OnlyOfNumber (e : ℕ) (d : Difference) : Type 0 where
+    pub number : difference_number d ≡ e
+    pub only : (other : Difference) → IsDifferenceOf other → difference_number other ≡ e → other ≡ d
+
   -- variables
   abbrev pub first_gate : ℕ
   first_gate = 2 + s.original.flops + s.plan.cycles * s.original.inputs

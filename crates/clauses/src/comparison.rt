@@ -3,7 +3,7 @@ ghost use Rattle.std.specs.Prelude.{◌≡◌, ◌<◌, ◌≤◌, ◌↔◌, �
 ghost use Rattle.comparisons.specs.Clauses.{named as naming};
 ghost use Rattle.comparisons.specs.Opening as opening;
 ghost use Rattle.clauses.specs.Plans.{in_time};
-ghost use Rattle.clauses.specs.Shapes.{IsDifferenceOf, all_differences};
+ghost use Rattle.clauses.specs.Shapes.{AreSizes, IsDifferenceOf, all_differences};
 ghost use Rattle.clauses.specs.Asked.{runs, OfCycle, names_in, compared_of, gate_clause_of, difference_clause_of};
 
 use crate::fixed::Fixed;
@@ -56,7 +56,8 @@ impl<'a, O: Circuit, G: Circuit> Comparison<'a, O, G> {
         ensures some { let a = O.Circuit.meaning original.now in let b = G.Circuit.meaning gated.now in
             IsSome result ↔ IsTrue (opening.same_sizes a.counts b.counts && in_time plan) }
         ensures of { let a = O.Circuit.meaning original.now in let b = G.Circuit.meaning gated.now in
-            IfSome result (λ c. (c.original ≡ a) × (c.gated ≡ b) × (c.shape.plan ≡ plan) × (c.fixed ≡ fixed)) }
+            IfSome result (λ c. (c.original ≡ a) × (c.gated ≡ b) × (c.shape.plan ≡ plan) × (c.fixed ≡ fixed)
+            × AreSizes a.counts b.counts fixed c.shape) }
     {
         let a = original.counts();
         let b = gated.counts();
@@ -128,7 +129,7 @@ impl<'a, O: Circuit, G: Circuit> Comparison<'a, O, G> {
     #[tactic(auto, using(circuits::proofs::Lookups::gate_low))]
     fn gate_clause(&self, half: Half, spot: Spot, part: GatePart) -> Clause
         requires early { spot.cycle < self.now.shape.plan.cycles }
-        requires low { spot.at < 8192 }
+        requires low { spot.at ≤ 8192 }
         ensures { result.items ≡ gate_clause_of self.now half spot part }
     {
         let Spot { cycle, at } = spot;

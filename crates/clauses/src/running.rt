@@ -1,10 +1,11 @@
-// A circuit that is either of two.
+// A circuit that is either of two. Each answer matches on which, so that what asks a comparison's circuit need not.
 ghost use Rattle.std.specs.Prelude.{◌≡◌};
 
 use circuits::circuit::{Circuit, Gate};
 use circuits::counts::Counts;
 use circuits::pin::Pin;
 
+// Not comparable, since its circuits need not be.
 #[derive(Clone, Copy)]
 pub(crate) enum Running<'a, O: Circuit, G: Circuit> {
     Original(&'a O),

@@ -16,6 +16,21 @@ pub struct Spot {
     pub at: u32,
 }
 
+impl Spot {
+    ghost use Rattle.std.specs.Prelude.{◌<◌, ◌/◌, ◌%◌};
+
+    // Place g of those of all cycles, of which each has so many.
+    fn numbered(g: u32, each: u32) -> Spot
+        requires { 0 < each }
+        ensures { result ≡ record { cycle = g / each; at = g % each } }
+    {
+        Spot {
+            cycle: g / each,
+            at: g % each,
+        }
+    }
+}
+
 // A cycle of a row, or the end of the row; no row has more than 8 cycles.
 #[derive(Clone, Copy, Debug, PartialEq, Eq)]
 pub(crate) struct Step {
@@ -124,16 +139,13 @@ impl Shape {
         let fronts = self.gates_on(front);
         let before = turn * fronts;
         if g < before {
-            return Spot {
-                cycle: g / fronts,
-                at: g % fronts,
-            };
+            return Spot::numbered(g, fronts);
         }
         let backs = self.gates_on(front.other());
-        let rest = g - before;
+        let Spot { cycle, at } = Spot::numbered(g - before, backs);
         Spot {
-            cycle: turn + rest / backs,
-            at: rest % backs,
+            cycle: turn + cycle,
+            at,
         }
     }
 
@@ -189,21 +201,18 @@ impl Shape {
         self.first_gate() + self.gates_ahead(step.half) + self.gates_before(step) + at
     }
 
-    // Difference e.
+    // Difference e, the only one of this number.
+    #[tactic(auto, using(crate::proofs::Differences::only_final))]
     pub(crate) fn difference(self, e: u32) -> Difference
         requires { e < spec.all_differences self }
         ensures is { result ≡ spec.difference_at self e }
         ensures of { spec.IsDifferenceOf self result }
-        ensures number { spec.difference_number self result ≡ e }
+        ensures only { spec.OnlyOfNumber self e result }
     {
         if let Some(flop) = e.checked_sub(self.outputs()) {
             return Difference::Final(flop);
         }
-        let each = self.original.outputs;
-        Difference::Output(Spot {
-            cycle: e / each,
-            at: e % each,
-        })
+        Difference::Output(Spot::numbered(e, self.original.outputs))
     }
 
     // The first variable of a difference.

@@ -1,7 +1,7 @@
+use Rattle.std.proofs.Common.{rules}
 use Rattle.clauses.proofs.Gates.{spot_front}
 use Rattle.clauses.proofs.shape.Shape.spot.Goals as goal
 
 pub returns-then-g-before : goal.returns-then-g-before
 returns-then-g-before c =
-    let low = rw (c.gates_on-fronts.ensures.is, c.row-front.ensures) at c.if-g-before.true in
-    rw (c.gates_on-fronts.ensures.is, c.row-front.ensures) (spot_front c.args.self c.args.half c.args.g low)
+    spot_front c.args.self c.args.half c.gates_on-fronts.result c.args.g c.numbered.result (search rules) c.numbered.ensures (search rules)
