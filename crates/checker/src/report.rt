@@ -25,7 +25,7 @@ pub enum Report {
 }
 
 // The texts of the two netlists.
-#[derive(Clone, Copy)]
+#[derive(Clone, Copy, Debug, PartialEq, Eq)]
 pub struct Texts<'t> {
     pub original: &'t [u8],
     pub gated: &'t [u8],

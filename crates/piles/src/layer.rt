@@ -1,5 +1,5 @@
 // A layer as a line of the list writes it.
-use anyhow::anyhow;
+use anyhow::{Context, anyhow};
 use netlists::Dummy;
 use std::alloc::Global;
 
@@ -10,9 +10,7 @@ pub enum Layer {
 }
 
 fn parse_dummy(text: &str) -> anyhow::Result<Dummy> {
-    let Some((next, pin)) = text.split_once(':') else {
-        return Err(anyhow!("a dummy without a colon"));
-    };
+    let (next, pin) = text.split_once(':').context("a dummy without a colon")?;
     Ok(Dummy {
         next: next.parse::<u32>()?,
         pin: pin.parse::<u32>()?,

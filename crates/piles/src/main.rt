@@ -6,7 +6,7 @@ mod layer;
 mod pile;
 mod told;
 
-use anyhow::anyhow;
+use anyhow::Context;
 use layer::parse_layer;
 use netlists::{MOST_WORDS, Plain, read};
 use pile::{Tell, Under, Visit};
@@ -14,14 +14,10 @@ use std::fs;
 
 fn run_sample(rt: &HostRuntime, line: &str) -> anyhow::Result<()> {
     let mut parts = line.split(';');
-    let Some(file) = parts.next() else {
-        return Err(anyhow!("a line without a file"));
-    };
+    let file = parts.next().context("a line without a file")?;
     let text = fs::read(rt, file)?;
     let mut words = vec![in rt.alloc(); 0; MOST_WORDS]?;
-    let Ok(counts) = read(text.as_slice(), &mut words) else {
-        return Err(anyhow!("a netlist that is refused"));
-    };
+    let counts = read(text.as_slice(), &mut words).context("a netlist that is refused")?;
     let plain = Plain::new(counts, words.as_slice());
     print!(rt; "{line}: ")?;
     let Some(first) = parts.next() else {
@@ -35,6 +31,7 @@ fn run_sample(rt: &HostRuntime, line: &str) -> anyhow::Result<()> {
     Under(&lower, Under(&upper, Tell)).visit(rt, &plain)
 }
 
+// Twice, here and in `samples`: shared, this loop would be a crate that both programs stand on.
 fn run(rt: &HostRuntime) -> anyhow::Result<()> {
     let list = fs::read_to_string(rt, "list")?;
     for line in list.lines() {

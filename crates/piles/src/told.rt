@@ -6,7 +6,7 @@ use std::fmt;
 const PRINTED: u32 = 8;
 
 // Two numbers that are shown together.
-#[derive(Clone, Copy)]
+#[derive(Clone, Copy, Debug, PartialEq, Eq)]
 struct Pair(u32, u32);
 
 impl fmt::Display for Pair {
@@ -26,7 +26,7 @@ fn next_and_pin<C: Circuit>(circuit: &C, j: u32) -> Pair {
     Pair(circuit.next(j), circuit.pin(j).into())
 }
 
-// Tells the first of `count` answers of a kind, by index, since there is no list of them.
+// Tells the first of `count` answers of a kind.
 fn tell_first<T: fmt::Display + Drop, F: Fn(u32) -> T>(
     rt: &HostRuntime,
     kind: &str,
@@ -36,8 +36,7 @@ fn tell_first<T: fmt::Display + Drop, F: Fn(u32) -> T>(
     requires { F.IsAlwaysCallable answer }
 {
     print!(rt; ", {kind}")?;
-    for i in 0..count.min(PRINTED) {
-        let told = answer(i);
+    for told in (0..count.min(PRINTED)).map(answer) {
         print!(rt; " {told}")?;
     }
     Ok(())

@@ -2,7 +2,7 @@
 // files whose bytes, one after the other, are the text.
 #![tactic(auto)]
 
-use anyhow::anyhow;
+use anyhow::Context;
 use netlists::read;
 use std::fs;
 
@@ -35,12 +35,13 @@ fn run_sample(rt: &HostRuntime, lent: usize, files: &str) -> anyhow::Result<()> 
     Ok(())
 }
 
+// Twice, here and in `piles`: shared, this loop would be a crate that both programs stand on.
 fn run(rt: &HostRuntime) -> anyhow::Result<()> {
     let list = fs::read_to_string(rt, "list")?;
     for line in list.lines() {
-        let Some((lent, files)) = line.split_once(' ') else {
-            return Err(anyhow!("a line of the list without a space"));
-        };
+        let (lent, files) = line
+            .split_once(' ')
+            .context("a line of the list without a space")?;
         run_sample(rt, lent.parse::<usize>()?, files)?;
     }
     Ok(())
