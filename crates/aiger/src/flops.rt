@@ -72,7 +72,7 @@ impl Section for Flops {
         Ok(flop)
     }
 
-    // By place and not into two rows cut first: a circuit is laid out in these rows, and one loop serves every section.
+    // By place and not into rows cut first: a circuit is laid out as its next literals and then its pins, and one loop serves all sections.
     fn write(flop: FlopLine, words: &mut [u32], count: usize, j: usize) {
         words[j] = flop.next;
         words[count + j] = u32::from(pin(flop.third));
