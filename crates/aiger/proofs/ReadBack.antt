@@ -1,5 +1,5 @@
 -- Each written form of a bounded circuit is read as that circuit.
-use Rattle.std.proofs.Common.{◌≡◌, ℕ, zero, suc, ◌+◌, ◌^◌, ◌<◌, ◌≤◌, Bool, true, false, List, [], ◌∷◌, ◌++◌, map, length, get_or, Ok, Result, sym, refl, ap, ◌∙◌, append_assoc, arith}
+use Rattle.std.proofs.Common.{◌≡◌, ℕ, zero, suc, ◌+◌, ◌^◌, ◌<◌, ◌≤◌, Bool, true, false, List, [], ◌∷◌, ◌++◌, map, Ok, Result, sym, refl, ap, ◌∙◌, append_assoc, arith}
 use Rattle.std.proofs.lemmas.List.FromFn.{fill_by_all}
 use Rattle.std.proofs.lemmas.Simd.{map-map}
 use Rattle.std.proofs.ByRecursion.{All-get_or}
@@ -7,11 +7,12 @@ use Rattle.std.proofs.lemmas.Bool.{eq-eqb, lt-leb, le-ltb}
 use Rattle.std.specs.List.{range_with_len, flat_map, AllByRecursion}
 use Rattle.std.specs.Option.{option_to_list}
 use Rattle.aiger.specs.declared.fault.ReadFault.{ReadFault}
-use Rattle.circuits.specs.declared.counts.Counts.{Counts}
 use Rattle.aiger.specs.declared.lines.Header.{Header}
 use Rattle.aiger.specs.declared.lines.FlopLine.{FlopLine}
 use Rattle.aiger.specs.declared.lines.GateLine.{GateLine}
 use Rattle.circuits.specs.Net.{Net, Bounded, last_net, top, input_literal, flop_literal, gate_literal, gate_at, next_at, pin_at, out_at, room}
+use Rattle.circuits.proofs.Nets.{same_net}
+use Rattle.circuits.proofs.NetsBefore.{first_whole}
 use Rattle.aiger.specs.Reading.{each, onward, input_line, flop_line, output_line, gate_line, header_line, net_of, sections, pin}
 use Rattle.aiger.specs.Written.{line, header_text, input_text, flop_text, output_text, gate_text}
 use Rattle.aiger.specs.Laws.{ReadsBack}
@@ -99,25 +100,18 @@ header_back net b lent l t =
     ))
     (rw (f, e) refl)
 
-listed : {X : Type 0} (xs : List X) (n : ℕ) (d : X) → length xs ≡ n → map (λ k. get_or xs k d) (range_with_len 0 n) ≡ xs
-listed xs n d e = sym (fill_by_all (λ k. get_or xs k d) xs n d e (λ k l. refl))
-
-same_net : (c : Counts) (gs : List (ℕ × ℕ)) (ns ps os : List ℕ) (net : Net) → c ≡ net.counts → gs ≡ net.operands → ns ≡ net.nexts → ps ≡ net.pins
-    → os ≡ net.outs → ◌≡◌ {A = Net} (record { counts = c; operands = gs; nexts = ns; pins = ps; outs = os }) net
-same_net c gs ns ps os net a b d e f = λ i. record { counts = a i; operands = b i; nexts = d i; pins = e i; outs = f i }
-
 net_back : (net : Net) (bare : ℕ → Bool) → Bounded net
     → net_of net.counts (map (flop_item net bare) (range_with_len 0 net.counts.flops)) (map (out_at net) (range_with_len 0 net.counts.outputs))
     (map (gate_item net) (range_with_len 0 net.counts.gates)) ≡ net
 net_back net bare b =
-    same_net net.counts _ _ _ _ net refl
-    (map-map (λ g. (g.left, g.right)) (gate_item net) (range_with_len 0 net.counts.gates) ∙ listed net.operands net.counts.gates (0, 0) b.operands_are)
-    (map-map (λ f. f.next) (flop_item net bare) (range_with_len 0 net.counts.flops) ∙ listed net.nexts net.counts.flops 0 b.nexts_are)
+    same_net _ net refl
+    (map-map (λ g. (g.left, g.right)) (gate_item net) (range_with_len 0 net.counts.gates) ∙ first_whole (0, 0) net.counts.gates net.operands b.operands_are)
+    (map-map (λ f. f.next) (flop_item net bare) (range_with_len 0 net.counts.flops) ∙ first_whole 0 net.counts.flops net.nexts b.nexts_are)
     (map-map (λ f. pin f.third) (flop_item net bare) (range_with_len 0 net.counts.flops)
     ∙ sym (fill_by_all (λ j. pin (third_of (bare j) (flop_literal net.counts j) (pin_at net j))) net.pins net.counts.flops 2 b.pins_are
     (λ j l. sym (third_pin (bare j) (flop_literal net.counts j) (pin_at net j) (omega arith)
     (All-get_or (λ p. p ≤ 2) net.pins j 2 (omega (arith, b.pins_are)) b.pins_in)))))
-    (listed net.outs net.counts.outputs 0 b.outs_are)
+    (first_whole 0 net.counts.outputs net.outs b.outs_are)
 
 sections_back : (net : Net) (bare : ℕ → Bool) → Bounded net → (t : List ℕ)
     → sections net.counts (flat_map input_text (range_with_len 0 net.counts.inputs) ++ (flat_map (flop_text net bare) (range_with_len 0 net.counts.flops)

@@ -2,7 +2,7 @@ ghost use Rattle.std.specs.Prelude.{◌+◌, ◌*◌, slice_set};
 ghost use Rattle.circuits.specs.Net.{operand_words};
 ghost use Rattle.aiger.specs.Reading as spec;
 
-use crate::fault::{ReadFault, Refusal};
+use crate::fault::Refusal;
 use crate::lines::{GateLine, Lines};
 use crate::section::Section;
 use crate::sizes::Sizes;
@@ -15,6 +15,8 @@ impl Section for Gates {
     type Line = GateLine;
 
     ghost count_of = { λ counts. counts.gates };
+
+    ghost first_of = { λ counts. 2 + counts.inputs + counts.flops + counts.outputs };
 
     ghost line_read = { spec.gate_line };
 
@@ -29,20 +31,23 @@ impl Section for Gates {
         counts.gates
     }
 
-    fn read(lines: &mut Lines, sizes: Sizes, i: u32) -> Result<GateLine, ReadFault> {
-        let counts = sizes.counts;
-        let line = 2 + counts.inputs + counts.flops + counts.outputs + i;
+    fn first_line(sizes: Sizes) -> u32 {
+        2 + sizes.counts.inputs + sizes.counts.flops + sizes.counts.outputs
+    }
+
+    fn read(lines: &mut Lines, sizes: Sizes, i: u32) -> Result<GateLine, Refusal> {
         let own = sizes.gate_literal(i);
-        let gate = lines.gate().ok_or(Refusal::MalformedLine.at(line))?;
+        let gate = lines.gate().ok_or(Refusal::MalformedLine)?;
         if gate.own != own {
-            return Err(Refusal::WrongLiteral.at(line));
+            return Err(Refusal::WrongLiteral);
         }
         if gate.left >= own || gate.right >= own {
-            return Err(Refusal::LargeLiteral.at(line));
+            return Err(Refusal::LargeLiteral);
         }
         Ok(gate)
     }
 
+    // By place and not by chunks: the contract of `as_chunks_mut` says nothing of what the slice ends as.
     fn write(gate: GateLine, words: &mut [u32], _count: usize, i: usize) {
         words[2 * i] = gate.left;
         words[2 * i + 1] = gate.right;

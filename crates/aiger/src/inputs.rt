@@ -1,7 +1,7 @@
 ghost use Rattle.std.specs.Prelude.{[]};
 ghost use Rattle.aiger.specs.Reading as spec;
 
-use crate::fault::{ReadFault, Refusal};
+use crate::fault::Refusal;
 use crate::lines::Lines;
 use crate::section::Section;
 use crate::sizes::Sizes;
@@ -15,6 +15,8 @@ impl Section for Inputs {
 
     ghost count_of = { λ counts. counts.inputs };
 
+    ghost first_of = { λ _. 2 };
+
     ghost line_read = { λ _. spec.input_line };
 
     ghost words_of = { λ _. [] };
@@ -27,11 +29,14 @@ impl Section for Inputs {
         counts.inputs
     }
 
-    fn read(lines: &mut Lines, sizes: Sizes, i: u32) -> Result<u32, ReadFault> {
-        let line = 2 + i;
-        let literal = lines.single().ok_or(Refusal::MalformedLine.at(line))?;
+    fn first_line(_sizes: Sizes) -> u32 {
+        2
+    }
+
+    fn read(lines: &mut Lines, sizes: Sizes, i: u32) -> Result<u32, Refusal> {
+        let literal = lines.single().ok_or(Refusal::MalformedLine)?;
         if literal != sizes.input_literal(i) {
-            return Err(Refusal::WrongLiteral.at(line));
+            return Err(Refusal::WrongLiteral);
         }
         Ok(literal)
     }

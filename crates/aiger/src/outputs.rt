@@ -1,7 +1,7 @@
-ghost use Rattle.std.specs.Prelude.{slice_set};
+ghost use Rattle.std.specs.Prelude.{◌+◌, slice_set};
 ghost use Rattle.aiger.specs.Reading as spec;
 
-use crate::fault::{ReadFault, Refusal};
+use crate::fault::Refusal;
 use crate::lines::Lines;
 use crate::section::Section;
 use crate::sizes::Sizes;
@@ -15,6 +15,8 @@ impl Section for Outputs {
 
     ghost count_of = { λ counts. counts.outputs };
 
+    ghost first_of = { λ counts. 2 + counts.inputs + counts.flops };
+
     ghost line_read = { spec.output_line };
 
     ghost words_of = { λ literals. literals };
@@ -27,12 +29,15 @@ impl Section for Outputs {
         counts.outputs
     }
 
-    fn read(lines: &mut Lines, sizes: Sizes, j: u32) -> Result<u32, ReadFault> {
+    fn first_line(sizes: Sizes) -> u32 {
+        2 + sizes.counts.inputs + sizes.counts.flops
+    }
+
+    fn read(lines: &mut Lines, sizes: Sizes, j: u32) -> Result<u32, Refusal> {
         let counts = sizes.counts;
-        let line = 2 + counts.inputs + counts.flops + j;
-        let literal = lines.single().ok_or(Refusal::MalformedLine.at(line))?;
+        let literal = lines.single().ok_or(Refusal::MalformedLine)?;
         if u64::from(literal) > counts.largest_literal() {
-            return Err(Refusal::LargeLiteral.at(line));
+            return Err(Refusal::LargeLiteral);
         }
         Ok(literal)
     }

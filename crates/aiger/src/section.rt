@@ -1,13 +1,14 @@
 // The lines after the first: a section for each kind of line, one section after the other.
-ghost use Rattle.std.specs.Prelude.{◌≡◌, ℕ, ◌<◌, List, length, Result};
+ghost use Rattle.std.specs.Prelude.{◌≡◌, ℕ, ◌+◌, ◌<◌, ◌≤◌, List, length, Result};
 ghost use Rattle.std.specs.List.{range_with_len};
 ghost use Rattle.circuits.specs.declared.counts.Counts.{Counts};
 ghost use Rattle.aiger.specs.declared.fault.ReadFault.{ReadFault};
-ghost use Rattle.aiger.specs.Beside.{beside_result, holding, as_words};
+ghost use Rattle.aiger.specs.Beside.{beside_result, holding, as_words, told_at};
+ghost use Rattle.aiger.specs.Laws.{last_line};
 ghost use Rattle.aiger.specs.Reading.{each};
 ghost use Rattle.aiger.specs.Sections.{WritesWords};
 
-use crate::fault::ReadFault;
+use crate::fault::{ReadFault, Refusal};
 use crate::lines::Lines;
 use crate::sizes::Sizes;
 use circuits::counts::Counts;
@@ -17,8 +18,10 @@ pub(crate) trait Section {
     // What is read of a line.
     type Line;
 
-    // How many lines there are, and what line i of them is read as.
+    // How many lines there are, the line of the text that the first is, and what line i of them is read as.
     ghost count_of: { Counts → ℕ };
+
+    ghost first_of: { Counts → ℕ };
 
     ghost line_read: { Counts → ℕ → List ℕ → Result (Self.Line × List ℕ) ReadFault };
 
@@ -33,9 +36,14 @@ pub(crate) trait Section {
     fn count(counts: Counts) -> u32
         ensures { result ≡ count_of counts };
 
-    fn read(lines: &mut Lines, sizes: Sizes, i: u32) -> Result<Self::Line, ReadFault>
+    fn first_line(sizes: Sizes) -> u32
+        ensures first { result ≡ first_of sizes.counts }
+        ensures fits { first_of sizes.counts + count_of sizes.counts ≤ 1 + last_line };
+
+    // Not one struct of `lines` and `sizes`: a line changes only the first, so each contract would also say that the sizes stay.
+    fn read(lines: &mut Lines, sizes: Sizes, i: u32) -> Result<Self::Line, Refusal>
         requires { i < count_of sizes.counts }
-        ensures { beside_result lines.new result
+        ensures { beside_result lines.new (told_at (first_of sizes.counts + i) result)
             ≡ line_read sizes.counts i lines.old };
 
     fn write(line: Self::Line, words: &mut [u32], count: usize, i: usize)
@@ -61,8 +69,10 @@ pub(crate) fn read_section<S: Section>(
         lines.old) }
 {
     let count = S::count(sizes.counts) as usize;
+    let first = S::first_line(sizes);
     for i in 0..count {
-        let line = S::read(lines, sizes, i as u32)?;
+        let number = first + i as u32;
+        let line = S::read(lines, sizes, i as u32).map_err(|refusal| refusal.at(number))?;
         S::write(line, words, count, i);
     }
     Ok(())

@@ -5,7 +5,7 @@ ghost use Rattle.circuits.specs.Net as spec;
 use circuits::counts::Counts;
 
 // A netlist's counts, once they are known to keep their bounds.
-#[derive(Clone, Copy)]
+#[derive(Clone, Copy, Debug, PartialEq, Eq)]
 pub struct Sizes {
     pub counts: Counts,
     ghost bounded: { BoundedCounts counts },
