@@ -76,6 +76,7 @@ impl<'a, 'p, C: Circuit> Circuit for Matched<'a, 'p, C> {
         self.below.counts()
     }
 
+    // Written out as in a padding, where it says why.
     fn gate(&self, i: u32) -> Gate {
         let Gate { left, right } = self.below.gate(i);
         Gate {

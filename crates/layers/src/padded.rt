@@ -129,7 +129,7 @@ impl<'a, 'd, C: Circuit> Circuit for Padded<'a, 'd, C> {
         }
     }
 
-    // Written out here and in a matching: a shared `map` would have to say at which literals its closure may be called.
+    // Written out here and in a matching: a `map` of gates in circuits would be public, and have to require that its closure may be called.
     fn gate(&self, i: u32) -> Gate {
         let Gate { left, right } = self.below.gate(i);
         Gate {

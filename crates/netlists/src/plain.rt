@@ -21,6 +21,7 @@ pub struct Plain<'a> {
 
 impl<'a> Plain<'a> {
     // The circuit of these counts that the words hold; where they hold none, the blank one, whose one output is false.
+    // Counts and words come apart here and below, since a caller has them so: it lent the words, and reading answered the counts.
     #[tactic(auto, using(crate::proofs::Plains::stands_held))]
     pub fn new(counts: Counts, words: &'a [u32]) -> Plain<'a>
         ensures { StandsFor counts words.now (⟦<Plain<'a> as Circuit>⟧.meaning result) }
