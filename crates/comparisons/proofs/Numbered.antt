@@ -3,8 +3,8 @@ use Rattle.std.proofs.Common.{◌≡◌, ℕ, zero, suc, ◌+◌, ◌-◌, ◌*�
 use Rattle.std.specs.List.{AllByRecursion}
 use Rattle.std.proofs.lemmas.List.{get_or_append_left, get_or-append-add, get_or-map, length-map}
 use Rattle.std.proofs.lemmas.Bool.{cases_lt}
-use Rattle.circuits.specs.Net.{Net, Bounded, gate_at, next_at, out_at, first, turned, before}
-use Rattle.circuits.proofs.NetsBefore.{length_first, get_or_first, length_before}
+use Rattle.circuits.specs.Net.{Net, Bounded, gate_at, next_at, out_at, turned, before}
+use Rattle.circuits.proofs.NetsBefore.{get_or_first, length_before, before_ins, before_flop}
 use Rattle.comparisons.specs.Clauses.{negated, clause_at, off, named, names, next_names, vars, gate_clauses, row_clauses, row_results, gate_count, difference_clauses, pin_literals, start, input, left_gates, right_gates, differences, left_results, right_results}
 use Rattle.comparisons.specs.Places.{gate_clause, difference_clause, pinned, net_at, cycle_at, flops_at, names_at, NetsNamed, BitsNamed, Placed, PinsPlaced}
 use Rattle.comparisons.proofs.Sequences.{rest}
@@ -25,23 +25,15 @@ nets_named net s w z =
     let I = net.counts.inputs in
     let L = net.counts.flops in
     let G = length net.operands in
-    let xs = first off I w in
-    let ys = first off L s in
-    let lx = length_first off I w in
-    let ly = length_first off L s in
-    let lxy = length-append xs ys in
     let nets = before off net.counts s w in
     let lb = length_before off net.counts s w in
     record {
       of_off = refl;
       of_input = λ i b.
           let f : 1 + i ≡ suc i = omega arith in
-          get_or_append_left nets (vars G z) off (1 + i) (omega arith) ∙ ap (λ m. get_or nets m off) f
-          ∙ get_or_append_left xs ys off i (omega arith) ∙ get_or_first off I w i b;
-      of_flop = λ j b.
-          let f : 1 + I + j ≡ suc (length xs + j) = omega arith in
-          get_or_append_left nets (vars G z) off (1 + I + j) (omega arith) ∙ ap (λ m. get_or nets m off) f
-          ∙ get_or-append-add xs ys j off ∙ get_or_first off L s j b;
+          ap (λ m. get_or (nets ++ vars G z) m off) f ∙ get_or_append_left nets (vars G z) off (suc i) (omega arith)
+          ∙ before_ins off net.counts s w (suc i) (omega arith) ∙ get_or_first off I w i b;
+      of_flop = λ j b. get_or_append_left nets (vars G z) off (1 + I + j) (omega arith) ∙ before_flop off net.counts s w j b;
       of_gate = λ g b.
           let e : 1 + I + L + g ≡ length nets + g = omega arith in
           ap (λ m. get_or (nets ++ vars G z) m off) e ∙ get_or-append-add nets (vars G z) g off ∙ get_or_vars G z g off b;

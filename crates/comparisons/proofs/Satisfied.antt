@@ -10,6 +10,7 @@ use Rattle.circuits.specs.declared.counts.Counts.{Counts}
 use Rattle.circuits.specs.Net.{Net, first, turned, before, value, gate_values, values}
 use Rattle.circuits.proofs.Mapped.{map_twice}
 use Rattle.circuits.proofs.NetsBefore.{length_first, first_whole, get_or_first}
+use Rattle.circuits.proofs.CycleValues.{length_gate_values}
 use Rattle.comparisons.specs.Machine.{machine, Held, FitsPins}
 use Rattle.comparisons.specs.Clauses.{negated, holds, holds_in, Satisfies, Refutable, off, named, vars, gate_clauses, names, next_names, row_clauses, row_results, gate_count, difference_clauses, pin_literals, start, input, left_gates, right_gates, given_clauses}
 use Rattle.comparisons.proofs.Repeats.{all_append, all_parts}
@@ -102,10 +103,6 @@ differ_holds p x y e = grind (arith, nat_tests)
 
 differ_held : (p x y : Bool) → p ≡ true → (not p || (x || (y || false))) ≡ true → (not p || (not x || (not y || false))) ≡ true → x ≡ y → ⊥
 differ_held p x y t a b e = grind (arith, nat_tests)
-
-pub length_gate_values : (gates : List (ℕ × ℕ)) (nets : List Bool) → length (gate_values gates nets) ≡ length gates
-length_gate_values [] nets = refl
-length_gate_values ((a, b) ∷ gates) nets = ap suc (length_gate_values gates (nets ++ (value nets a && value nets b) ∷ []))
 
 -- what literals are
 abbrev pub h : (ℕ → Bool) → List ℕ → List Bool
