@@ -2,6 +2,7 @@
 use Rattle.std.proofs.Common.{◌≡◌, ℕ, zero, suc, ◌+◌, ◌-◌, ◌*◌, ◌/◌, ◌%◌, ◌<◌, ◌≤◌, Bool, true, false, not, ◌&&◌, ◌||◌, ◌↔◌, List, [], ◌∷◌, ◌++◌, map, length, get_or, sym, refl, ap, ◌∙◌, subst, ap₂, inl, inr, mul-le-mul_right, arith, length-append}
 use Rattle.std.proofs.Math.ListN.{get_or-map}
 use Rattle.std.specs.List.{range_with_len, AllByRecursion}
+use Rattle.std.proofs.ByRecursion.{All-append}
 use Rattle.std.proofs.lemmas.List.{map-append, length-map, get_or_append_left, get_or_past}
 use Rattle.std.proofs.lemmas.Bool.Decides.{nat_tests}
 use Rattle.std.proofs.lemmas.Bool.{false≢true, false_from_ne_true, or_cases, or_parts, cases_lt}
@@ -13,7 +14,7 @@ use Rattle.circuits.proofs.NetsBefore.{length_first, first_whole, get_or_first}
 use Rattle.circuits.proofs.CycleValues.{length_gate_values}
 use Rattle.comparisons.specs.Machine.{machine, Held, FitsPins}
 use Rattle.comparisons.specs.Clauses.{negated, holds, holds_in, Satisfies, Refutable, off, named, vars, gate_clauses, names, next_names, row_clauses, row_results, gate_count, difference_clauses, pin_literals, start, input, left_gates, right_gates, given_clauses}
-use Rattle.comparisons.proofs.Repeats.{all_append, all_parts}
+use Rattle.comparisons.proofs.Repeats.{all_parts}
 use Rattle.comparisons.proofs.Sequences.{rest, outputs, final, Equal}
 use Rattle.comparisons.proofs.Sized.{Sized}
 
@@ -193,7 +194,7 @@ module _ (v : ℕ → Bool) (low : v 1 ≡ false) where
             let said = now.0 here in parts.1 (said, (more said).0 then),
         λ all.
             let (said, then) = parts.0 all in
-            all_append (λ c. holds_in v c ≡ true) (gate_clauses gates (before off net.counts s (ws 0)) z) (row_clauses row s' (rest ws) (z + length gates))
+            All-append (λ c. holds_in v c ≡ true) (gate_clauses gates (before off net.counts s (ws 0)) z) (row_clauses row s' (rest ws) (z + length gates))
             (now.1 said) ((more said).1 then),
       )
 
@@ -578,9 +579,9 @@ module _ (inputs flops outs : ℕ) (pins : List ℕ) (left right : List Net)
       let none : holds_in v (vars (length us) d) ≡ false
       = false_from_ne_true (holds_in v (vars (length us) d)) (λ some-differ. refutable v (
         rw low refl,
-        all_append P (A ++ B ++ C ++ D) (pin_clauses pins)
-            (all_append P (A ++ B ++ C) D
-            (all_append P (A ++ B) C (all_append P A B ((row_say v low left x i z).1 w.says_left) ((row_say v low right x i y).1 w.says_right)) made.0)
+        All-append P (A ++ B ++ C ++ D) (pin_clauses pins)
+            (All-append P (A ++ B ++ C) D
+            (All-append P (A ++ B) C (All-append P A B ((row_say v low left x i z).1 w.says_left) ((row_say v low right x i y).1 w.says_right)) made.0)
             (some-differ, tt))
             ((pins_hold v pins 2).1 (fits_move pins flops size (λ j. get_or s j false) (λ j. v (2 + j)) (λ j b. sym (says_at v 2 s' a0 j (omega (arith, length_first false flops s)) ∙ get_or_first false flops s j b)) pinned)),
       )) in
