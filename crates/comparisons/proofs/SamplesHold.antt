@@ -1,11 +1,11 @@
 -- What holds of the small circuits is mostly computed.
-use Rattle.std.proofs.Common.{◌≡◌, ℕ, zero, suc, ◌<◌, ◌≤◌, Bool, true, false, not, ◌&&◌, List, [], ◌∷◌, length, get_or, sym, refl, ap, ◌∙◌, subst, arith}
+use Rattle.std.proofs.Common.{◌≡◌, ℕ, ◌<◌, ◌≤◌, Bool, true, false, not, ◌&&◌, List, [], ◌∷◌, length, get_or, sym, refl, ap, ◌∙◌, subst, arith}
 use Rattle.std.specs.List.{range_with_len, AllByRecursion}
 use Rattle.std.proofs.lemmas.List.FromFn.{length-range_with_len, get_or-range_with_len}
 use Rattle.std.proofs.lemmas.List.Elements.{All-from_recursion}
 use Rattle.std.proofs.lemmas.Bool.Decides.{nat_tests}
 use Rattle.std.proofs.lemmas.Bool.{false≢true}
-use Rattle.circuits.specs.Net.{Net, Bounded}
+use Rattle.circuits.specs.Net.{Bounded}
 use Rattle.circuits.proofs.Bounds.{in_bounds_parts}
 use Rattle.comparisons.specs.Machine.{outputs, final, machine}
 use Rattle.comparisons.specs.Samples.{Samples, delay, pair, gated_pair, counter, silent, at_two}
