@@ -446,8 +446,8 @@ fits_move pins flops size f g same held j =
       | inr b ↦ subst (λ p. Held p (g j)) (sym (get_or_past pins j 2 (omega arith))) tt
     ]
 
-pin_low : (b : Bool) → (not b || false) ≡ true ↔ b ≡ false
-pin_low b = (λ e. grind (arith, nat_tests), λ e. grind (arith, nat_tests))
+lone_negated : (b : Bool) → (not b || false) ≡ true ↔ b ≡ false
+lone_negated b = (λ e. grind (arith, nat_tests), λ e. grind (arith, nat_tests))
 
 module _ (v : ℕ → Bool) where
   abbrev pub PinsHeld : List ℕ → ℕ → Type 0
@@ -467,7 +467,7 @@ module _ (v : ℕ → Bool) where
   pins_hold (zero ∷ pins) z =
       let e = holds_not_var v z in
       let more = pins_hold pins (suc z) in
-      let low = pin_low (v z) in (
+      let low = lone_negated (v z) in (
         λ s. held_more 0 pins z (low.0 (ap (λ x. x || false) (sym e) ∙ s.0)) (more.0 s.1),
         λ a. let (here, there) = held_parts 0 pins z a in (ap (λ x. x || false) e ∙ low.1 here, more.1 there),
       )
@@ -499,7 +499,7 @@ module _ (inputs flops outs : ℕ) (pins : List ℕ) (left right : List Net)
     (fl : AllByRecursion (Sized inputs flops outs) left) (fr : AllByRecursion (Sized inputs flops outs) right) (l : length left ≡ length right) (size : length pins ≤ flops) where
   refuted : Equal (FitsPins pins) (map machine left) (map machine right) → Refutable (given_clauses inputs flops (pin_literals pins 2) left right)
   refuted equal v (first-clause, sat) =
-      let low = (pin_low (v 1)).0 first-clause in
+      let low = (lone_negated (v 1)).0 first-clause in
       let s = start inputs flops in
       let i = input inputs flops in
       let z = 2 + flops + length left * inputs in
