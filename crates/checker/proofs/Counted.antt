@@ -1,12 +1,11 @@
 -- Counting by places.
-use Rattle.std.proofs.Common.{◌≡◌, ℕ, ◌+◌, Bool, List, length, get_or, count_by, cond, sym, refl, ap, ◌∙◌}
+use Rattle.std.proofs.Common.{◌≡◌, ℕ, ◌+◌, Bool, List, length, get_or, count_by, cond, sym, ap, ◌∙◌}
 use Rattle.std.specs.List.{range_with_len}
-use Rattle.std.proofs.lemmas.List.FromFn.{fill_by_all}
 use Rattle.std.proofs.lemmas.List.Folds.{fold-map}
+use Rattle.circuits.proofs.NetsBefore.{first_whole}
 
 -- as many places hold such an item as there are such items
 pub count_places : {X : Type 0} (is : X → Bool) (xs : List X) (n : ℕ) (d : X) → length xs ≡ n
     → count_by (λ k. is (get_or xs k d)) (range_with_len 0 n) ≡ count_by is xs
 count_places is xs n d l =
-    sym (ap (count_by is) (fill_by_all (λ k. get_or xs k d) xs n d l (λ k _. refl))
-    ∙ fold-map (λ a x. a + cond (is x) 1 0) (λ k. get_or xs k d) 0 (range_with_len 0 n))
+    sym (fold-map (λ a x. a + cond (is x) 1 0) (λ k. get_or xs k d) 0 (range_with_len 0 n)) ∙ ap (count_by is) (first_whole d n xs l)

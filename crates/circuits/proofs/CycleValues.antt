@@ -1,9 +1,9 @@
 -- What the values of a cycle say of each net.
-use Rattle.std.proofs.Common.{◌≡◌, ℕ, zero, suc, ◌+◌, ◌-◌, ◌*◌, ◌/◌, ◌<◌, Bool, false, ◌&&◌, List, [], ◌∷◌, ◌++◌, length, get_or, sym, refl, ap, ◌∙◌, subst, ap₂, arith}
-use Rattle.std.proofs.lemmas.List.FromFn.{length-map-range_with_len, get_or-map-range_with_len}
-use Rattle.std.proofs.lemmas.List.{append_assoc, get_or_append_left, get_or-append_right, get_or-append-add, length-append, length-map, length_push}
+use Rattle.std.proofs.Common.{◌≡◌, ℕ, zero, suc, ◌+◌, ◌*◌, ◌/◌, ◌<◌, Bool, false, ◌&&◌, List, [], ◌∷◌, ◌++◌, length, get_or, sym, refl, ap, ◌∙◌, subst, ap₂, arith}
+use Rattle.std.proofs.lemmas.List.{append_assoc, get_or_append_left, get_or-append-add, length-append, length-map, length_push}
 use Rattle.std.proofs.lemmas.Grind.{common_steps}
-use Rattle.circuits.specs.Net.{Net, Bounded, first, before, value, gate_values, values, Cycles}
+use Rattle.circuits.specs.Net.{Net, Bounded, before, value, gate_values, values, Cycles}
+use Rattle.circuits.proofs.NetsBefore.{length_before, before_ins, before_flop, get_or_first}
 
 -- a literal of a net that stands in the front has its value there
 front_value : (nets more : List Bool) (x : ℕ) → x / 2 < length nets → value nets x ≡ value (nets ++ more) x
@@ -13,9 +13,9 @@ front_value nets more x h = grind (arith, common_steps)
 even_value : (nets : List Bool) (v : ℕ) → value nets (2 * v) ≡ get_or nets v false
 even_value nets v = grind (arith, common_steps)
 
-length_gates : (gs : List (ℕ × ℕ)) (nets : List Bool) → length (gate_values gs nets) ≡ length gs
-length_gates [] nets = refl
-length_gates (g ∷ gs) nets = ap suc (length_gates gs (nets ++ ((value nets g.0 && value nets g.1) ∷ [])))
+pub length_gate_values : (gs : List (ℕ × ℕ)) (nets : List Bool) → length (gate_values gs nets) ≡ length gs
+length_gate_values [] nets = refl
+length_gate_values (g ∷ gs) nets = ap suc (length_gate_values gs (nets ++ ((value nets g.0 && value nets g.1) ∷ [])))
 
 -- gate i is the AND of its operands, whatever nets they name before it
 gate_is_and : (gs : List (ℕ × ℕ)) (nets : List Bool) (i : ℕ) → i < length gs
@@ -39,31 +39,20 @@ gate_is_and (g ∷ gs) nets (suc i) h l r =
 pub cycles : (net : Net) → Bounded net → Cycles net
 cycles net b state inputs =
     let c = net.counts in
-    let ins : List Bool = first false c.inputs inputs in
-    let held : List Bool = first false c.flops state in
     let nets : List Bool = before false c state inputs in
     let gates : List Bool = gate_values net.operands nets in
-    let li : length ins ≡ c.inputs = length-map-range_with_len (λ k. get_or inputs k false) 0 c.inputs in
-    let lh : length held ≡ c.flops = length-map-range_with_len (λ k. get_or state k false) 0 c.flops in
-    let lb : length (ins ++ held) ≡ length ins + length held = length-append ins held in
-    let ln : length nets ≡ 1 + c.inputs + c.flops = omega arith in
-    let lg : length gates ≡ c.gates = length_gates net.operands nets ∙ b.operands_are in
+    let ln : length nets ≡ 1 + c.inputs + c.flops = length_before false c state inputs in
+    let lg : length gates ≡ c.gates = length_gate_values net.operands nets ∙ b.operands_are in
     let lw : length (nets ++ gates) ≡ length nets + length gates = length-append nets gates in
     record {
       false_net = refl;
       input_nets = λ i h.
           let s : 1 + i ≡ suc i = omega arith in
-          even_value (nets ++ gates) (1 + i) ∙ ap (λ m. get_or (nets ++ gates) m false) s
-          ∙ get_or_append_left (ins ++ held) gates false i (omega arith) ∙ get_or_append_left ins held false i (omega arith)
-          ∙ get_or-map-range_with_len (λ k. get_or inputs k false) 0 c.inputs i i false h (omega arith);
+          even_value (nets ++ gates) (1 + i) ∙ ap (λ m. get_or (nets ++ gates) m false) s ∙ get_or_append_left nets gates false (suc i) (omega arith)
+          ∙ before_ins false c state inputs (suc i) (omega arith) ∙ get_or_first false c.inputs inputs i h;
       flop_nets = λ j h.
-          let s : 1 + c.inputs + j ≡ suc (c.inputs + j) = omega arith in
-          let d : c.inputs + j - c.inputs ≡ j = omega arith in
-          even_value (nets ++ gates) (1 + c.inputs + j) ∙ ap (λ m. get_or (nets ++ gates) m false) s
-          ∙ get_or_append_left (ins ++ held) gates false (c.inputs + j) (omega arith)
-          ∙ get_or-append_right ins held c.inputs (c.inputs + j) false li (omega arith)
-          ∙ ap (λ m. get_or held m false) d
-          ∙ get_or-map-range_with_len (λ k. get_or state k false) 0 c.flops j j false h (omega arith);
+          even_value (nets ++ gates) (1 + c.inputs + j) ∙ get_or_append_left nets gates false (1 + c.inputs + j) (omega arith)
+          ∙ before_flop false c state inputs j h;
       gate_nets = λ i h.
           let o = b.operands_in i h in let o₀ = o.0 in let o₁ = o.1 in
           let s : 1 + c.inputs + c.flops + i ≡ length nets + i = omega arith in

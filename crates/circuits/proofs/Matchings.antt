@@ -10,7 +10,8 @@ use Rattle.circuits.specs.Net.{Net, Bounded, top, gate_at, gate_literal, next_at
 use Rattle.circuits.specs.Renumbered.{renumbered, both_renumbered}
 use Rattle.circuits.specs.Matched.{place, InSomeOrder, flops_moved, rewired, matched, inverse, permuted, MatchingLaws}
 use Rattle.circuits.proofs.NetsBefore.{length_before, before_ins, before_flop}
-use Rattle.circuits.proofs.Mapped.{map_twice, map_back, any_get_or}
+use Rattle.circuits.proofs.Mapped.{map_twice, map_back}
+use Rattle.circuits.proofs.Lookups.{next_low, pin_low}
 use Rattle.circuits.proofs.Orders.{at_place, names_flops, inverse_in_order, inverse_at, place_inverse}
 use Rattle.circuits.proofs.Renumbering.{Agree, same_values}
 
@@ -63,9 +64,9 @@ rewired_bounded n p to b lp low =
           (sym (get_or-map (both_renumbered nets) n.operands i (0, 0) (0, 0) (omega arith)))
           (up (gate_at n i).0 in'.0, up (gate_at n i).1 in'.1);
       nexts_in = All-map Fits (λ f. renumbered nets (next_at n f)) p (All-from_get_or (λ f. Fits (renumbered nets (next_at n f))) p 0
-          (λ i _. fits (next_at n (get_or p i 0)) (any_get_or Fits n.nexts 0 (omega arith) b.nexts_in (get_or p i 0))));
+          (λ i _. fits (next_at n (get_or p i 0)) (next_low n b (get_or p i 0))));
       pins_in = All-map (λ q. q ≤ 2) (pin_at n) p (All-from_get_or (λ f. pin_at n f ≤ 2) p 0
-          (λ i _. any_get_or (λ q. q ≤ 2) n.pins 2 (omega arith) b.pins_in (get_or p i 0)));
+          (λ i _. pin_low n b (get_or p i 0)));
       outs_in = All-map Fits (renumbered nets) n.outs (All-weaker Fits (λ x. Fits (renumbered nets x)) fits n.outs b.outs_in);
     }
 

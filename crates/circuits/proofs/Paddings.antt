@@ -14,7 +14,7 @@ use Rattle.circuits.specs.declared.dummy.Dummy.{Dummy}
 use Rattle.circuits.specs.Net.{Net, Bounded, top, gate_at, gate_literal, first, before, value, values}
 use Rattle.circuits.specs.Renumbered.{renumbered, both_renumbered}
 use Rattle.circuits.specs.Padded.{moved_up, padded, Fitting, PaddingLaws}
-use Rattle.circuits.proofs.NetsBefore.{length_before}
+use Rattle.circuits.proofs.NetsBefore.{first_whole, length_before}
 use Rattle.circuits.proofs.Renumbering.{Agree, same_values}
 
 -- one dummy that fits
@@ -88,7 +88,7 @@ module _ (n : Net) (ds : List Dummy) (state held inputs : List Bool) (l : length
       let e : take f all ≡ own =
       take-map-range_with_len (λ k. get_or (state ++ held) k false) 0 (f + length ds) f (omega arith)
       ∙ sym (fill_by_all (λ k. get_or (state ++ held) k false) state f false l (λ k h. sym (get_or_append_left state held false k (omega arith))))
-      ∙ fill_by_all (λ k. get_or state k false) state f false l (λ k h. refl) in
+      ∙ sym (first_whole false f state l) in
       let split : all ≡ own ++ drop f all = sym (take-append-drop f all) ∙ ap (λ xs. xs ++ drop f all) e in
       (drop f all, ap (λ xs. front ++ xs) split ∙ sym (append_assoc front own (drop f all)))
 

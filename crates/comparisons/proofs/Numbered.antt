@@ -1,10 +1,11 @@
 -- Each clause stands where its number says.
-use Rattle.std.proofs.Common.{◌≡◌, ℕ, zero, suc, ◌+◌, ◌-◌, ◌*◌, ◌/◌, ◌%◌, ◌<◌, ◌≤◌, List, [], ◌∷◌, ◌++◌, map, length, get_or, take, sym, refl, ap, ◌∙◌, ap₂, inl, inr, append_assoc, append-nil, arith, length-append}
+use Rattle.std.proofs.Common.{◌≡◌, ℕ, zero, suc, ◌+◌, ◌-◌, ◌*◌, ◌/◌, ◌%◌, ◌<◌, ◌≤◌, List, [], ◌∷◌, ◌++◌, map, length, get_or, take, sym, refl, ap, ◌∙◌, ap₂, inl, inr, append_assoc, append-nil, arith}
 use Rattle.std.specs.List.{AllByRecursion}
 use Rattle.std.proofs.lemmas.List.{get_or_append_left, get_or-append-add, get_or-map, length-map}
 use Rattle.std.proofs.lemmas.Bool.{cases_lt}
-use Rattle.circuits.specs.Net.{Net, Bounded, gate_at, next_at, out_at, first, turned, before}
-use Rattle.circuits.proofs.NetsBefore.{length_first, get_or_first, length_before}
+use Rattle.std.proofs.lemmas.Grind.{common_steps}
+use Rattle.circuits.specs.Net.{Net, Bounded, gate_at, next_at, out_at, turned, before}
+use Rattle.circuits.proofs.NetsBefore.{get_or_first, length_before, before_ins, before_flop}
 use Rattle.comparisons.specs.Clauses.{negated, clause_at, off, named, names, next_names, vars, gate_clauses, row_clauses, row_results, gate_count, difference_clauses, pin_literals, start, input, left_gates, right_gates, differences, left_results, right_results}
 use Rattle.comparisons.specs.Places.{gate_clause, difference_clause, pinned, net_at, cycle_at, flops_at, names_at, NetsNamed, BitsNamed, Placed, PinsPlaced}
 use Rattle.comparisons.proofs.Sequences.{rest}
@@ -25,23 +26,15 @@ nets_named net s w z =
     let I = net.counts.inputs in
     let L = net.counts.flops in
     let G = length net.operands in
-    let xs = first off I w in
-    let ys = first off L s in
-    let lx = length_first off I w in
-    let ly = length_first off L s in
-    let lxy = length-append xs ys in
     let nets = before off net.counts s w in
     let lb = length_before off net.counts s w in
     record {
       of_off = refl;
       of_input = λ i b.
           let f : 1 + i ≡ suc i = omega arith in
-          get_or_append_left nets (vars G z) off (1 + i) (omega arith) ∙ ap (λ m. get_or nets m off) f
-          ∙ get_or_append_left xs ys off i (omega arith) ∙ get_or_first off I w i b;
-      of_flop = λ j b.
-          let f : 1 + I + j ≡ suc (length xs + j) = omega arith in
-          get_or_append_left nets (vars G z) off (1 + I + j) (omega arith) ∙ ap (λ m. get_or nets m off) f
-          ∙ get_or-append-add xs ys j off ∙ get_or_first off L s j b;
+          ap (λ m. get_or (nets ++ vars G z) m off) f ∙ get_or_append_left nets (vars G z) off (suc i) (omega arith)
+          ∙ before_ins off net.counts s w (suc i) (omega arith) ∙ get_or_first off I w i b;
+      of_flop = λ j b. get_or_append_left nets (vars G z) off (1 + I + j) (omega arith) ∙ before_flop off net.counts s w j b;
       of_gate = λ g b.
           let e : 1 + I + L + g ≡ length nets + g = omega arith in
           ap (λ m. get_or (nets ++ vars G z) m off) e ∙ get_or-append-add nets (vars G z) g off ∙ get_or_vars G z g off b;
@@ -200,22 +193,15 @@ difference_place (u ∷ us) (w ∷ ws) d (suc e) r l b c =
     let g : d + suc e ≡ suc d + e = omega arith in
     rw (f, g) (difference_place us ws (suc d) e r (omega arith) (omega arith) c)
 
-pin_place_0 : (pins : List ℕ) (z j : ℕ) → get_or pins j 2 ≡ 0 → get_or (pin_literals pins z) (pinned (take j pins)) 0 ≡ 2 * (z + j) + 1
-pin_place_0 [] z j e = absurd (omega arith)
-pin_place_0 (zero ∷ pins) z zero e = let f : z + 0 ≡ z = omega arith in rw f
-pin_place_0 (suc p ∷ pins) z zero e = absurd (omega arith)
-pin_place_0 (zero ∷ pins) z (suc j) e = let f : z + suc j ≡ suc z + j = omega arith in rw f (pin_place_0 pins (suc z) j e)
-pin_place_0 (suc zero ∷ pins) z (suc j) e = let f : z + suc j ≡ suc z + j = omega arith in rw f (pin_place_0 pins (suc z) j e)
-pin_place_0 (suc (suc p) ∷ pins) z (suc j) e = let f : z + suc j ≡ suc z + j = omega arith in rw f (pin_place_0 pins (suc z) j e)
-
-pin_place_1 : (pins : List ℕ) (z j : ℕ) → get_or pins j 2 ≡ 1 → get_or (pin_literals pins z) (pinned (take j pins)) 0 ≡ 2 * (z + j)
-pin_place_1 [] z j e = absurd (omega arith)
-pin_place_1 (zero ∷ pins) z zero e = absurd (omega arith)
-pin_place_1 (suc zero ∷ pins) z zero e = let f : z + 0 ≡ z = omega arith in rw f
-pin_place_1 (suc (suc p) ∷ pins) z zero e = absurd (omega arith)
-pin_place_1 (zero ∷ pins) z (suc j) e = let f : z + suc j ≡ suc z + j = omega arith in rw f (pin_place_1 pins (suc z) j e)
-pin_place_1 (suc zero ∷ pins) z (suc j) e = let f : z + suc j ≡ suc z + j = omega arith in rw f (pin_place_1 pins (suc z) j e)
-pin_place_1 (suc (suc p) ∷ pins) z (suc j) e = let f : z + suc j ≡ suc z + j = omega arith in rw f (pin_place_1 pins (suc z) j e)
+-- the bit b of pin j
+pin_place : (pins : List ℕ) (z j b : ℕ) → b < 2 → get_or pins j 2 ≡ b → get_or (pin_literals pins z) (pinned (take j pins)) 0 ≡ 2 * (z + j) + 1 - b
+pin_place [] z j b l e = absurd (omega arith)
+pin_place (zero ∷ pins) z zero b l e = omega arith
+pin_place (suc zero ∷ pins) z zero b l e = omega arith
+pin_place (suc (suc p) ∷ pins) z zero b l e = absurd (omega arith)
+pin_place (zero ∷ pins) z (suc j) b l e = let more = pin_place pins (suc z) j b l e in omega arith
+pin_place (suc zero ∷ pins) z (suc j) b l e = let more = pin_place pins (suc z) j b l e in omega arith
+pin_place (suc (suc p) ∷ pins) z (suc j) b l e = let more = pin_place pins (suc z) j b l e in omega arith
 
 count_pinned : (pins : List ℕ) (z : ℕ) → length (pin_literals pins z) ≡ pinned pins
 count_pinned [] z = refl
@@ -239,46 +225,19 @@ module _ (x : List ℕ) (As Bs Cs Ds Es : List (List ℕ)) where
   later c k e = let i : c ≡ suc (suc k) = omega arith in ap (clause_at whole) i
 
   at_A : (c k : ℕ) → c ≡ 2 + k → k < length As → clause_at whole c ≡ get_or As k []
-  at_A c k e b =
-      let n₁ = length-append As Bs in
-      let n₂ = length-append (As ++ Bs) Cs in
-      let n₃ = length-append (As ++ Bs ++ Cs) Ds in
-      later c k e ∙ get_or_append_left (As ++ Bs ++ Cs ++ Ds) Es [] k (omega arith) ∙ get_or_append_left (As ++ Bs ++ Cs) Ds [] k (omega arith)
-      ∙ get_or_append_left (As ++ Bs) Cs [] k (omega arith) ∙ get_or_append_left As Bs [] k b
+  at_A c k e b = grind (arith, common_steps, later c k e)
 
   at_B : (c k : ℕ) → c ≡ 2 + (length As + k) → k < length Bs → clause_at whole c ≡ get_or Bs k []
-  at_B c k e b =
-      let n₁ = length-append As Bs in
-      let n₂ = length-append (As ++ Bs) Cs in
-      let n₃ = length-append (As ++ Bs ++ Cs) Ds in
-      later c (length As + k) e ∙ get_or_append_left (As ++ Bs ++ Cs ++ Ds) Es [] (length As + k) (omega arith)
-      ∙ get_or_append_left (As ++ Bs ++ Cs) Ds [] (length As + k) (omega arith)
-      ∙ get_or_append_left (As ++ Bs) Cs [] (length As + k) (omega arith) ∙ get_or-append-add As Bs k []
+  at_B c k e b = grind (arith, common_steps, later c (length As + k) e)
 
   at_C : (c k : ℕ) → c ≡ 2 + (length As + length Bs + k) → k < length Cs → clause_at whole c ≡ get_or Cs k []
-  at_C c k e b =
-      let n₁ = length-append As Bs in
-      let n₂ = length-append (As ++ Bs) Cs in
-      let n₃ = length-append (As ++ Bs ++ Cs) Ds in
-      let j = length (As ++ Bs) + k in
-      later c j (omega arith) ∙ get_or_append_left (As ++ Bs ++ Cs ++ Ds) Es [] j (omega arith) ∙ get_or_append_left (As ++ Bs ++ Cs) Ds [] j (omega arith)
-      ∙ get_or-append-add (As ++ Bs) Cs k []
+  at_C c k e b = grind (arith, common_steps, later c (length As + length Bs + k) e)
 
   at_D : (c k : ℕ) → c ≡ 2 + (length As + length Bs + length Cs + k) → k < length Ds → clause_at whole c ≡ get_or Ds k []
-  at_D c k e b =
-      let n₁ = length-append As Bs in
-      let n₂ = length-append (As ++ Bs) Cs in
-      let n₃ = length-append (As ++ Bs ++ Cs) Ds in
-      let j = length (As ++ Bs ++ Cs) + k in
-      later c j (omega arith) ∙ get_or_append_left (As ++ Bs ++ Cs ++ Ds) Es [] j (omega arith) ∙ get_or-append-add (As ++ Bs ++ Cs) Ds k []
+  at_D c k e b = grind (arith, common_steps, later c (length As + length Bs + length Cs + k) e)
 
   at_E : (c k : ℕ) → c ≡ 2 + (length As + length Bs + length Cs + length Ds + k) → clause_at whole c ≡ get_or Es k []
-  at_E c k e =
-      let n₁ = length-append As Bs in
-      let n₂ = length-append (As ++ Bs) Cs in
-      let n₃ = length-append (As ++ Bs ++ Cs) Ds in
-      let j = length (As ++ Bs ++ Cs ++ Ds) + k in
-      later c j (omega arith) ∙ get_or-append-add (As ++ Bs ++ Cs ++ Ds) Es k []
+  at_E c k e = grind (arith, common_steps, later c (length As + length Bs + length Cs + length Ds + k) e)
 
 pub placed : (inputs flops outs : ℕ) (fixed : List ℕ) (left right : List Net)
     → AllByRecursion (Sized inputs flops outs) left → AllByRecursion (Sized inputs flops outs) right → length left ≡ length right → AllByRecursion Bounded left → AllByRecursion Bounded right
@@ -333,4 +292,8 @@ placed inputs flops outs fixed left right fl fr same bl br =
     }
 
 pub pins_placed : (pins : List ℕ) → PinsPlaced pins
-pins_placed pins = record { of_0 = λ j e. pin_place_0 pins 2 j e; of_1 = λ j e. pin_place_1 pins 2 j e; as_many = count_pinned pins 2 }
+pins_placed pins = record {
+  of_0 = λ j e. let p = pin_place pins 2 j 0 (omega arith) e in omega arith;
+  of_1 = λ j e. let p = pin_place pins 2 j 1 (omega arith) e in omega arith;
+  as_many = count_pinned pins 2;
+}

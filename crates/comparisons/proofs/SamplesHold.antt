@@ -1,8 +1,12 @@
 -- What holds of the small circuits is mostly computed.
-use Rattle.std.proofs.Common.{◌≡◌, ℕ, zero, suc, ◌<◌, ◌≤◌, Bool, true, false, not, ◌&&◌, List, [], ◌∷◌, length, get_or, sym, refl, ap, arith}
+use Rattle.std.proofs.Common.{◌≡◌, ℕ, ◌<◌, ◌≤◌, Bool, true, false, not, ◌&&◌, List, [], ◌∷◌, length, get_or, sym, refl, ap, ◌∙◌, subst, arith}
+use Rattle.std.specs.List.{range_with_len, AllByRecursion}
+use Rattle.std.proofs.lemmas.List.FromFn.{length-range_with_len, get_or-range_with_len}
+use Rattle.std.proofs.lemmas.List.Elements.{All-from_recursion}
 use Rattle.std.proofs.lemmas.Bool.Decides.{nat_tests}
 use Rattle.std.proofs.lemmas.Bool.{false≢true}
-use Rattle.circuits.specs.Net.{Net, Bounded, gate_at, gate_literal}
+use Rattle.circuits.specs.Net.{Bounded}
+use Rattle.circuits.proofs.Bounds.{in_bounds_parts}
 use Rattle.comparisons.specs.Machine.{outputs, final, machine}
 use Rattle.comparisons.specs.Samples.{Samples, delay, pair, gated_pair, counter, silent, at_two}
 
@@ -28,32 +32,14 @@ counters_start s e [] l = absurd (omega arith)
 counters_start s e (w ∷ []) l = (ap (λ o. (o ∷ []) ∷ []) (high_only (get_or s 0 false) (get_or s 1 false) e), refl)
 counters_start s e (w ∷ x ∷ ws) l = absurd (omega arith)
 
--- each operand is below its gate
-
-abbrev Low : Net → Type 0
-Low net = (i : ℕ) → i < net.counts.gates → ((gate_at net i).0 < gate_literal net.counts i) × ((gate_at net i).1 < gate_literal net.counts i)
-
-pair_low : Low pair
-pair_low zero l = (omega arith, omega arith)
-pair_low (suc i) l = absurd (omega arith)
-
-gated_low : Low gated_pair
-gated_low zero l = (omega arith, omega arith)
-gated_low (suc zero) l = (omega arith, omega arith)
-gated_low (suc (suc zero)) l = (omega arith, omega arith)
-gated_low (suc (suc (suc zero))) l = (omega arith, omega arith)
-gated_low (suc (suc (suc (suc i)))) l = absurd (omega arith)
-
-counter_low : (out : ℕ) → Low (counter out)
-counter_low out zero l = (omega arith, omega arith)
-counter_low out (suc zero) l = (omega arith, omega arith)
-counter_low out (suc (suc zero)) l = (omega arith, omega arith)
-counter_low out (suc (suc (suc zero))) l = (omega arith, omega arith)
-counter_low out (suc (suc (suc (suc i)))) l = absurd (omega arith)
+-- what holds of each number below n, one by one
+each_below : (n : ℕ) (P : ℕ → Type 0) → AllByRecursion P (range_with_len 0 n) → (i : ℕ) → i < n → P i
+each_below n P h i l =
+    subst P (get_or-range_with_len 0 n i 0 l ∙ omega arith) (All-from_recursion P (range_with_len 0 n) h i 0 (omega (arith, length-range_with_len 0 n)))
 
 delay_bounded : Bounded delay
 delay_bounded = record {
-  counts_in = record { few_inputs = omega arith; few_flops = omega arith; few_gates = omega arith; some_output = omega arith; few_outputs = omega arith };
+  counts_in = in_bounds_parts delay.counts refl;
   operands_are = refl;
   nexts_are = refl;
   pins_are = refl;
@@ -66,12 +52,12 @@ delay_bounded = record {
 
 pair_bounded : Bounded pair
 pair_bounded = record {
-  counts_in = record { few_inputs = omega arith; few_flops = omega arith; few_gates = omega arith; some_output = omega arith; few_outputs = omega arith };
+  counts_in = in_bounds_parts pair.counts refl;
   operands_are = refl;
   nexts_are = refl;
   pins_are = refl;
   outs_are = refl;
-  operands_in = pair_low;
+  operands_in = each_below 1 _ ((omega arith, omega arith), tt);
   nexts_in = (omega arith, (omega arith, tt));
   pins_in = (omega arith, (omega arith, tt));
   outs_in = (omega arith, tt);
@@ -79,12 +65,12 @@ pair_bounded = record {
 
 gated_bounded : Bounded gated_pair
 gated_bounded = record {
-  counts_in = record { few_inputs = omega arith; few_flops = omega arith; few_gates = omega arith; some_output = omega arith; few_outputs = omega arith };
+  counts_in = in_bounds_parts gated_pair.counts refl;
   operands_are = refl;
   nexts_are = refl;
   pins_are = refl;
   outs_are = refl;
-  operands_in = gated_low;
+  operands_in = each_below 4 _ ((omega arith, omega arith), ((omega arith, omega arith), ((omega arith, omega arith), ((omega arith, omega arith), tt))));
   nexts_in = (omega arith, (omega arith, tt));
   pins_in = (omega arith, (omega arith, tt));
   outs_in = (omega arith, tt);
@@ -92,12 +78,12 @@ gated_bounded = record {
 
 counter_bounded : (out : ℕ) → out ≤ 13 → Bounded (counter out)
 counter_bounded out l = record {
-  counts_in = record { few_inputs = omega arith; few_flops = omega arith; few_gates = omega arith; some_output = omega arith; few_outputs = omega arith };
+  counts_in = in_bounds_parts (counter out).counts refl;
   operands_are = refl;
   nexts_are = refl;
   pins_are = refl;
   outs_are = refl;
-  operands_in = counter_low out;
+  operands_in = each_below 4 _ ((omega arith, omega arith), ((omega arith, omega arith), ((omega arith, omega arith), ((omega arith, omega arith), tt))));
   nexts_in = (omega arith, (omega arith, tt));
   pins_in = (omega arith, (omega arith, tt));
   outs_in = (omega arith, tt);

@@ -2,6 +2,7 @@
 use Rattle.std.proofs.Common.{◌≡◌, ℕ, zero, suc, ◌+◌, ◌-◌, ◌*◌, ◌/◌, ◌%◌, ◌<◌, ◌≤◌, Bool, true, false, not, ◌&&◌, ◌||◌, ◌↔◌, List, [], ◌∷◌, ◌++◌, map, length, get_or, sym, refl, ap, ◌∙◌, subst, ap₂, inl, inr, mul-le-mul_right, arith, length-append}
 use Rattle.std.proofs.Math.ListN.{get_or-map}
 use Rattle.std.specs.List.{range_with_len, AllByRecursion}
+use Rattle.std.proofs.ByRecursion.{All-append}
 use Rattle.std.proofs.lemmas.List.{map-append, length-map, get_or_append_left, get_or_past}
 use Rattle.std.proofs.lemmas.Bool.Decides.{nat_tests}
 use Rattle.std.proofs.lemmas.Bool.{false≢true, false_from_ne_true, or_cases, or_parts, cases_lt}
@@ -10,9 +11,10 @@ use Rattle.circuits.specs.declared.counts.Counts.{Counts}
 use Rattle.circuits.specs.Net.{Net, first, turned, before, value, gate_values, values}
 use Rattle.circuits.proofs.Mapped.{map_twice}
 use Rattle.circuits.proofs.NetsBefore.{length_first, first_whole, get_or_first}
+use Rattle.circuits.proofs.CycleValues.{length_gate_values}
 use Rattle.comparisons.specs.Machine.{machine, Held, FitsPins}
 use Rattle.comparisons.specs.Clauses.{negated, holds, holds_in, Satisfies, Refutable, off, named, vars, gate_clauses, names, next_names, row_clauses, row_results, gate_count, difference_clauses, pin_literals, start, input, left_gates, right_gates, given_clauses}
-use Rattle.comparisons.proofs.Repeats.{all_append, all_parts}
+use Rattle.comparisons.proofs.Repeats.{all_parts}
 use Rattle.comparisons.proofs.Sequences.{rest, outputs, final, Equal}
 use Rattle.comparisons.proofs.Sized.{Sized}
 
@@ -103,10 +105,6 @@ differ_holds p x y e = grind (arith, nat_tests)
 differ_held : (p x y : Bool) → p ≡ true → (not p || (x || (y || false))) ≡ true → (not p || (not x || (not y || false))) ≡ true → x ≡ y → ⊥
 differ_held p x y t a b e = grind (arith, nat_tests)
 
-pub length_gate_values : (gates : List (ℕ × ℕ)) (nets : List Bool) → length (gate_values gates nets) ≡ length gates
-length_gate_values [] nets = refl
-length_gate_values ((a, b) ∷ gates) nets = ap suc (length_gate_values gates (nets ++ (value nets a && value nets b) ∷ []))
-
 -- what literals are
 abbrev pub h : (ℕ → Bool) → List ℕ → List Bool
 h v ls = map (holds v) ls
@@ -196,7 +194,7 @@ module _ (v : ℕ → Bool) (low : v 1 ≡ false) where
             let said = now.0 here in parts.1 (said, (more said).0 then),
         λ all.
             let (said, then) = parts.0 all in
-            all_append (λ c. holds_in v c ≡ true) (gate_clauses gates (before off net.counts s (ws 0)) z) (row_clauses row s' (rest ws) (z + length gates))
+            All-append (λ c. holds_in v c ≡ true) (gate_clauses gates (before off net.counts s (ws 0)) z) (row_clauses row s' (rest ws) (z + length gates))
             (now.1 said) ((more said).1 then),
       )
 
@@ -448,8 +446,8 @@ fits_move pins flops size f g same held j =
       | inr b ↦ subst (λ p. Held p (g j)) (sym (get_or_past pins j 2 (omega arith))) tt
     ]
 
-pin_low : (b : Bool) → (not b || false) ≡ true ↔ b ≡ false
-pin_low b = (λ e. grind (arith, nat_tests), λ e. grind (arith, nat_tests))
+lone_negated : (b : Bool) → (not b || false) ≡ true ↔ b ≡ false
+lone_negated b = (λ e. grind (arith, nat_tests), λ e. grind (arith, nat_tests))
 
 module _ (v : ℕ → Bool) where
   abbrev pub PinsHeld : List ℕ → ℕ → Type 0
@@ -469,7 +467,7 @@ module _ (v : ℕ → Bool) where
   pins_hold (zero ∷ pins) z =
       let e = holds_not_var v z in
       let more = pins_hold pins (suc z) in
-      let low = pin_low (v z) in (
+      let low = lone_negated (v z) in (
         λ s. held_more 0 pins z (low.0 (ap (λ x. x || false) (sym e) ∙ s.0)) (more.0 s.1),
         λ a. let (here, there) = held_parts 0 pins z a in (ap (λ x. x || false) e ∙ low.1 here, more.1 there),
       )
@@ -501,7 +499,7 @@ module _ (inputs flops outs : ℕ) (pins : List ℕ) (left right : List Net)
     (fl : AllByRecursion (Sized inputs flops outs) left) (fr : AllByRecursion (Sized inputs flops outs) right) (l : length left ≡ length right) (size : length pins ≤ flops) where
   refuted : Equal (FitsPins pins) (map machine left) (map machine right) → Refutable (given_clauses inputs flops (pin_literals pins 2) left right)
   refuted equal v (first-clause, sat) =
-      let low = (pin_low (v 1)).0 first-clause in
+      let low = (lone_negated (v 1)).0 first-clause in
       let s = start inputs flops in
       let i = input inputs flops in
       let z = 2 + flops + length left * inputs in
@@ -581,9 +579,9 @@ module _ (inputs flops outs : ℕ) (pins : List ℕ) (left right : List Net)
       let none : holds_in v (vars (length us) d) ≡ false
       = false_from_ne_true (holds_in v (vars (length us) d)) (λ some-differ. refutable v (
         rw low refl,
-        all_append P (A ++ B ++ C ++ D) (pin_clauses pins)
-            (all_append P (A ++ B ++ C) D
-            (all_append P (A ++ B) C (all_append P A B ((row_say v low left x i z).1 w.says_left) ((row_say v low right x i y).1 w.says_right)) made.0)
+        All-append P (A ++ B ++ C ++ D) (pin_clauses pins)
+            (All-append P (A ++ B ++ C) D
+            (All-append P (A ++ B) C (All-append P A B ((row_say v low left x i z).1 w.says_left) ((row_say v low right x i y).1 w.says_right)) made.0)
             (some-differ, tt))
             ((pins_hold v pins 2).1 (fits_move pins flops size (λ j. get_or s j false) (λ j. v (2 + j)) (λ j b. sym (says_at v 2 s' a0 j (omega (arith, length_first false flops s)) ∙ get_or_first false flops s j b)) pinned)),
       )) in

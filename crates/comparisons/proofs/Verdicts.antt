@@ -42,62 +42,57 @@ module _ (a b : Net) (ba : Bounded a) (bb : Bounded b) (fb : Sized a.counts.inpu
   abbrev O : ℕ
   O = a.counts.outputs
 
-  fa : Sized I L O a
-  fa = record { inputs_are = refl; flops_are = refl; nexts_are = ba.nexts_are; outs_are = ba.outs_are }
+  -- a bounded circuit of the size of a, and n such
+  abbrev Usable : Net → Type 0
+  Usable x = Sized I L O x × Bounded x
 
-  -- cycles of one circuit and then of the other, against cycles of one and then of the other
-  rows_fit : (pins : List ℕ) → length pins ≤ L → (x y u v : Net) → Sized I L O x → Sized I L O y → Sized I L O u → Sized I L O v
-      → Bounded x → Bounded y → Bounded u → Bounded v → (n k m l most : ℕ) → n + k ≡ m + l → n + k ≤ most
-      → Fit I L O most (record { inputs = I; flops = L; pins = pins; left = row n x k y; right = row m u l v })
-  rows_fit pins p x y u v fx fy fu fv bx by bu bv n k m l most e s = record {
+  abbrev AllUsable : ℕ → List Net → Type 0
+  AllUsable n xs = (length xs ≡ n) × AllByRecursion (Sized I L O) xs × AllByRecursion Bounded xs
+
+  usable_a : Usable a
+  usable_a = (record { inputs_are = refl; flops_are = refl; nexts_are = ba.nexts_are; outs_are = ba.outs_are }, ba)
+
+  -- cycles of one, and cycles of one and then of the other
+  same_usable : (x : Net) → Usable x → (n : ℕ) → AllUsable n (replicate n x)
+  same_usable x u n = (length-replicate n x, all_replicate (Sized I L O) n x u.0, all_replicate Bounded n x u.1)
+
+  row_usable : (x y : Net) → Usable x → Usable y → (n k : ℕ) → AllUsable (n + k) (row n x k y)
+  row_usable x y u v n k = (length_row x y n k, all_row (Sized I L O) x y u.0 v.0 n k, all_row Bounded x y u.1 v.1 n k)
+
+  rows_fit : (pins : List ℕ) → length pins ≤ L → (n most : ℕ) → n ≤ most → (left right : List Net) → AllUsable n left → AllUsable n right
+      → Fit I L O most (record { inputs = I; flops = L; pins = pins; left = left; right = right })
+  rows_fit pins p n most s left right x y = record {
     inputs_are = refl;
     flops_are = refl;
-    left_fits = all_row (Sized I L O) x y fx fy n k;
-    right_fits = all_row (Sized I L O) u v fu fv m l;
-    as_long = length_row x y n k ∙ e ∙ sym (length_row u v m l);
+    left_fits = x.1;
+    right_fits = y.1;
+    as_long = x.0 ∙ sym y.0;
     pins_fit = p;
-    short = omega (arith, length_row x y n k);
-    left_bounded = all_row Bounded x y bx by n k;
-    right_bounded = all_row Bounded u v bu bv m l;
+    short = omega (arith, x.0);
+    left_bounded = x.2;
+    right_bounded = y.2;
   }
 
-  -- .. against cycles of one
-  row_fits : (pins : List ℕ) → length pins ≤ L → (x y u : Net) → Sized I L O x → Sized I L O y → Sized I L O u
-      → Bounded x → Bounded y → Bounded u → (n k m most : ℕ) → n + k ≡ m → n + k ≤ most
-      → Fit I L O most (record { inputs = I; flops = L; pins = pins; left = row n x k y; right = replicate m u })
-  row_fits pins p x y u fx fy fu bx by bu n k m most e s = record {
-    inputs_are = refl;
-    flops_are = refl;
-    left_fits = all_row (Sized I L O) x y fx fy n k;
-    right_fits = all_replicate (Sized I L O) m u fu;
-    as_long = length_row x y n k ∙ e ∙ sym (length-replicate m u);
-    pins_fit = p;
-    short = omega (arith, length_row x y n k);
-    left_bounded = all_row Bounded x y bx by n k;
-    right_bounded = all_replicate Bounded m u bu;
-  }
-
-  pinned_fits : (n most : ℕ) → n ≤ most
-      → Fit I L O most (record { inputs = I; flops = L; pins = a.pins; left = replicate n b; right = replicate n a })
-  pinned_fits n most s = record {
-    inputs_are = refl;
-    flops_are = refl;
-    left_fits = all_replicate (Sized I L O) n b fb;
-    right_fits = all_replicate (Sized I L O) n a fa;
-    as_long = length-replicate n b ∙ sym (length-replicate n a);
-    pins_fit = omega (arith, ba.pins_are);
-    short = omega (arith, length-replicate n b);
-    left_bounded = all_replicate Bounded n b bb;
-    right_bounded = all_replicate Bounded n a ba;
-  }
+  -- cycles of one and then of the other, against cycles of a, from any start
+  against_a : (x y : Net) → Usable x → Usable y → (n k : ℕ)
+      → Fit I L O (n + k) (record { inputs = I; flops = L; pins = []; left = row n x k y; right = replicate (n + k) a })
+  against_a x y u v n k =
+      rows_fit [] (omega arith) (n + k) (n + k) (omega arith) (row n x k y) (replicate (n + k) a) (row_usable x y u v n k) (same_usable a usable_a (n + k))
 
   pub fit : (rule : Rule) (n k : ℕ) → DeepEnough rule n k → AllByRecursion (Fit I L O (n + k)) (comparisons a b rule n k)
-  fit Everywhere n k deep = (row_fits [] (omega arith) b a a fb fa fa bb ba ba n k (n + k) (n + k) refl (omega arith), tt)
-  fit AfterOriginal n k deep = (row_fits [] (omega arith) a b a fa fb fa ba bb ba n k (n + k) (n + k) refl (omega arith), tt)
-  fit FromPins n k deep =
-      (pinned_fits n (n + k) (omega arith), (row_fits [] (omega arith) a b a fa fb fa ba bb ba n k (n + k) (n + k) refl (omega arith), tt))
+  fit Everywhere n k deep = (against_a b a (fb, bb) usable_a n k, tt)
+  fit AfterOriginal n k deep = (against_a a b usable_a (fb, bb) n k, tt)
+  fit FromPins n k deep = (
+    rows_fit a.pins (omega (arith, ba.pins_are)) n (n + k) (omega arith) (replicate n b) (replicate n a)
+        (same_usable b (fb, bb) n) (same_usable a usable_a n),
+    (against_a a b usable_a (fb, bb) n k, tt),
+  )
   fit AfterGated n k deep =
-      (rows_fit [] (omega arith) b a b a fb fa fb fa bb ba bb ba n k (n + 1) (k - 1) (n + k) (omega arith) (omega arith), tt)
+      let (l, s, i) = row_usable b a (fb, bb) usable_a (n + 1) (k - 1) in (
+        rows_fit [] (omega arith) (n + k) (n + k) (omega arith) (row n b k a) (row (n + 1) b (k - 1) a)
+            (row_usable b a (fb, bb) usable_a n k) (l ∙ omega arith, s, i),
+        tt,
+      )
 
 -- over rows of bits of any lengths
 abbrev EqualTotal : Comparison → Type 0
