@@ -72,7 +72,7 @@ fn fill(text: &[u8], words: &mut [u32]) -> Result<Counts, ReadFault>
 }
 
 // Reads a netlist's text into the lent words: its operands, next literals, pins and outputs. Later words are left as they
-// were; a refused text leaves every word 0.
+// were; a refused text leaves every word 0. A caller lends the two apart, so they are no struct.
 pub fn read(text: &[u8], words: &mut [u32]) -> Result<Counts, ReadFault>
     ensures answer { result ≡ spec.answered (spec.reading (length words.old) text.now) }
     ensures written { words.new ≡ spec.words_after (spec.reading (length words.old) text.now) words.old }

@@ -125,7 +125,7 @@ impl<'a, O: Circuit, G: Circuit> Comparison<'a, O, G> {
         }
     }
 
-    // A clause about a gate.
+    // A clause about a gate. Half and spot come apart, as `Place` has them: in one value with a step's fact, a public place would ask for it.
     #[tactic(auto, using(circuits::proofs::Lookups::gate_low))]
     fn gate_clause(&self, half: Half, spot: Spot, part: GatePart) -> Clause
         requires early { spot.cycle < self.now.shape.plan.cycles }

@@ -1,4 +1,5 @@
-// Literals of clauses, 2v of variable v and 2v + 1 of its negation, and the clauses about a gate and about a difference.
+// Literals of clauses, 2v of variable v and 2v + 1 of its negation, and the clauses about a gate and about a difference. Numbers, as in
+// the text, the words and all definitions.
 ghost use Rattle.std.specs.Prelude.{◌≡◌, ◌%◌, ◌<◌, ◌≤◌, ◌^◌, length};
 ghost use Rattle.circuits.specs.Net.{turned};
 ghost use Rattle.comparisons.specs.Clauses.{negated};
@@ -43,10 +44,7 @@ fn clause_of(literals: &[u32]) -> Clause
     requires { length literals.now ≤ 3 }
     ensures { result.items ≡ literals.now }
 {
-    let Ok(clause) = Clause::try_from(literals) else {
-        unreachable!();
-    };
-    clause
+    Clause::try_from(literals).unwrap()
 }
 
 impl Defined {

@@ -60,7 +60,7 @@ fn judge_dummies(counts: Counts, dummies: &[Dummy]) -> Result<(), PadFault>
     Ok(())
 }
 
-// Judges the dummies for a circuit of these counts; those that pass fit it.
+// Judges the dummies for a circuit of these counts; those that pass fit it. In one struct the two would only be taken apart again.
 #[tactic(auto, using(crate::proofs::Pads::passed_fits))]
 fn judge(counts: Counts, dummies: &[Dummy]) -> Result<(), PadFault>
     ensures answer { result ≡ unless_due (pad_checks counts dummies.now) tt }
@@ -129,7 +129,8 @@ impl<'a, 'd, C: Circuit> Circuit for Padded<'a, 'd, C> {
         }
     }
 
-    // Written out here and in a matching: a `map` of gates in circuits would be public, and have to require that its closure may be called.
+    // Written out here and in a matching, as is `out`: shared, this line would be a function that takes a closure and says at which
+    // literals it may be called, and what it then answers.
     fn gate(&self, i: u32) -> Gate {
         let Gate { left, right } = self.below.gate(i);
         Gate {

@@ -6,7 +6,8 @@ ghost use Rattle.netlists.specs.Plain.{SomeHeld};
 
 use circuits::counts::Counts;
 
-// The operands of each gate, the next literals, the pins and the output literals, as many as the counts say.
+// The operands of each gate, the next literals, the pins and the output literals, as many as the counts say: rows of lent words, so next
+// literals and pins are not one row of pairs.
 #[derive(Clone, Copy, Debug, PartialEq, Eq)]
 pub struct Sections<'a> {
     pub counts: Counts,

@@ -3,7 +3,7 @@ use anyhow::{Context, anyhow};
 use netlists::Dummy;
 use std::alloc::Global;
 
-#[derive(Drop)]
+#[derive(Debug, Drop, PartialEq, Eq)]
 pub enum Layer {
     Pad(Vec<Dummy>),
     Match(Vec<u32>),

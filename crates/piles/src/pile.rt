@@ -13,8 +13,8 @@ pub(crate) trait Visit {
 #[derive(Clone, Copy, Debug, PartialEq, Eq)]
 pub(crate) struct Tell;
 
-// Visits the circuit under this layer, or tells why there is none. Not comparable, as a layer's lists are not.
-#[derive(Clone, Copy)]
+// Visits the circuit under this layer, or tells why there is none.
+#[derive(Clone, Copy, Debug, PartialEq, Eq)]
 pub(crate) struct Under<'l, V>(pub &'l Layer, pub V);
 
 impl Visit for Tell {
