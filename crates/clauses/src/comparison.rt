@@ -125,7 +125,8 @@ impl<'a, O: Circuit, G: Circuit> Comparison<'a, O, G> {
         }
     }
 
-    // A clause about a gate. Half and spot come apart, as `Place` has them: in one value with a step's fact, a public place would ask for it.
+    // A clause about a gate. Half and spot come apart, as in `Place`: one value of both with the fact of a `Step` would make `Place`, which
+    // is public, ask for that fact.
     #[tactic(auto, using(circuits::proofs::Lookups::gate_low))]
     fn gate_clause(&self, half: Half, spot: Spot, part: GatePart) -> Clause
         requires early { spot.cycle < self.now.shape.plan.cycles }

@@ -1,5 +1,5 @@
-// Literals of clauses, 2v of variable v and 2v + 1 of its negation, and the clauses about a gate and about a difference. Numbers, as in
-// the text, the words and all definitions.
+// Literals of clauses, 2v of variable v and 2v + 1 of its negation, and the clauses about a gate and about a difference. Literals are
+// numbers here, as in the text, the words and all definitions.
 ghost use Rattle.std.specs.Prelude.{◌≡◌, ◌%◌, ◌<◌, ◌≤◌, ◌^◌, length};
 ghost use Rattle.circuits.specs.Net.{turned};
 ghost use Rattle.comparisons.specs.Clauses.{negated};

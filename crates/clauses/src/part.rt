@@ -34,8 +34,8 @@ impl GatePart {
     }
 }
 
-// Alike in two impls, over three cases and two: a trait of this one method would have these very bodies, and `TryFrom` an error that
-// nobody meets.
+// Alike in two impls, over three cases and two: a trait of this one method would have these very bodies, and `TryFrom` would have an
+// error that nobody meets.
 impl DifferencePart {
     // The clause at this place among those of its difference.
     pub(crate) fn at(place: u32) -> DifferencePart

@@ -5,8 +5,7 @@ use circuits::circuit::{Circuit, Gate};
 use circuits::counts::Counts;
 use circuits::pin::Pin;
 
-// Not comparable, since its circuits need not be.
-#[derive(Clone, Copy)]
+#[derive(Clone, Copy, Debug, PartialEq, Eq)]
 pub(crate) enum Running<'a, O: Circuit, G: Circuit> {
     Original(&'a O),
     Gated(&'a G),

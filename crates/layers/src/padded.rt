@@ -60,7 +60,8 @@ fn judge_dummies(counts: Counts, dummies: &[Dummy]) -> Result<(), PadFault>
     Ok(())
 }
 
-// Judges the dummies for a circuit of these counts; those that pass fit it. In one struct the two would only be taken apart again.
+// Judges the dummies for a circuit of these counts; those that pass fit it. Counts and dummies come apart: a struct of both would only be
+// taken apart again.
 #[tactic(auto, using(crate::proofs::Pads::passed_fits))]
 fn judge(counts: Counts, dummies: &[Dummy]) -> Result<(), PadFault>
     ensures answer { result ≡ unless_due (pad_checks counts dummies.now) tt }
@@ -129,8 +130,8 @@ impl<'a, 'd, C: Circuit> Circuit for Padded<'a, 'd, C> {
         }
     }
 
-    // Written out here and in a matching, as is `out`: shared, this line would be a function that takes a closure and says at which
-    // literals it may be called, and what it then answers.
+    // Written out here and in a matching, as is `out`: shared, each would be a function that takes a closure and says at which literals
+    // it may be called, and what it then answers.
     fn gate(&self, i: u32) -> Gate {
         let Gate { left, right } = self.below.gate(i);
         Gate {
