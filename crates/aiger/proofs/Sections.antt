@@ -89,6 +89,16 @@ outputs_from j (x ∷ xs) ws e =
 pub outputs_words : WritesWords {X = ℕ} (λ _ j literal words. set words j literal) (λ count. count) (λ literals. literals)
 outputs_words n xs ws a b = outputs_from 0 xs ws (omega arith)
 
+pub take_pair : (xs : List ℕ) (k a b : ℕ) → 2 * k + 1 < length xs
+    → take (2 * (k + 1)) (set (set xs (2 * k) a) (2 * k + 1) b) ≡ take (2 * k) xs ++ (a ∷ b ∷ [])
+take_pair xs k a b h =
+    let e : 2 * (k + 1) ≡ 2 * k + 1 + 1 = omega arith in
+    let l : 2 * k + 1 < length (set xs (2 * k) a) = simp length-set h in
+    ap (λ m. take m (set (set xs (2 * k) a) (2 * k + 1) b)) e
+    ∙ take_more_set (set xs (2 * k) a) (2 * k + 1) b l
+    ∙ ap (λ ys. ys ++ (b ∷ [])) (take_more_set xs (2 * k) a (omega arith))
+    ∙ append_assoc (take (2 * k) xs) (a ∷ []) (b ∷ [])
+
 gates_from : (i : ℕ) (gs : List GateLine) (ws : List ℕ) → 2 * (i + length gs) ≡ length ws
     → writes (λ i g ws. set (set ws (2 * i) g.left) (2 * i + 1) g.right) i gs ws ≡ take (2 * i) ws ++ operand_words (operands_of gs)
 gates_from i [] ws e = sym (append-nil (take (2 * i) ws) ∙ take_all (2 * i) ws (omega arith))
@@ -96,16 +106,6 @@ gates_from i (g ∷ gs) ws e =
     gates_from (i + 1) gs (set (set ws (2 * i) g.left) (2 * i + 1) g.right) (simp length-set (omega arith))
     ∙ ap (λ ys. ys ++ operand_words (operands_of gs)) (take_pair ws i g.left g.right (omega arith))
     ∙ append_assoc (take (2 * i) ws) (g.left ∷ g.right ∷ []) (operand_words (operands_of gs))
-  where
-    take_pair : (xs : List ℕ) (k a b : ℕ) → 2 * k + 1 < length xs
-        → take (2 * (k + 1)) (set (set xs (2 * k) a) (2 * k + 1) b) ≡ take (2 * k) xs ++ (a ∷ b ∷ [])
-    take_pair xs k a b h =
-        let e : 2 * (k + 1) ≡ 2 * k + 1 + 1 = omega arith in
-        let l : 2 * k + 1 < length (set xs (2 * k) a) = simp length-set h in
-        ap (λ m. take m (set (set xs (2 * k) a) (2 * k + 1) b)) e
-        ∙ take_more_set (set xs (2 * k) a) (2 * k + 1) b l
-        ∙ ap (λ ys. ys ++ (b ∷ [])) (take_more_set xs (2 * k) a (omega arith))
-        ∙ append_assoc (take (2 * k) xs) (a ∷ []) (b ∷ [])
 
 pub gates_words : WritesWords {X = GateLine} (λ _ i gate words. set (set words (2 * i) gate.left) (2 * i + 1) gate.right) (λ count. 2 * count)
     (λ gates. operand_words (operands_of gates))

@@ -28,7 +28,7 @@ Fitting-prop c ds = Prim.hlevel props
 renumbered_le : (c : Counts) (d x : ℕ) → renumbered (moved_up c d) x ≤ x + 2 * d
 renumbered_le c d x = grind (arith, nat_tests)
 
-padded_gate : (n : Net) (ds : List Dummy) (i : ℕ) → gate_at (padded n ds) i ≡ both_renumbered (moved_up n.counts (length ds)) (gate_at n i)
+pub padded_gate : (n : Net) (ds : List Dummy) (i : ℕ) → gate_at (padded n ds) i ≡ both_renumbered (moved_up n.counts (length ds)) (gate_at n i)
 padded_gate n ds i = grind (arith, common_steps)
 
 pub padded_bounded : (n : Net) (ds : List Dummy) → Bounded n → Fitting n.counts ds → Bounded (padded n ds)

@@ -12,7 +12,7 @@ use Rattle.clauses.specs.Plans.{half_row, side_at}
 use Rattle.clauses.specs.Shapes.{gates_on, gates_in_row, Spots}
 
 -- below a product, the factor is not zero
-factor : (g m k : ℕ) → g < m * k → 0 < k
+pub factor : (g m k : ℕ) → g < m * k → 0 < k
 factor g m zero l = absurd (omega (arith, mul-zero m))
 factor g m (suc k) l = omega arith
 

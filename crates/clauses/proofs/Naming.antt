@@ -50,7 +50,7 @@ module _ {c : Compared} (sizes : Sizes c) where
   L = s.original.flops
 
   -- the first variable of a gate of a row
-  first_is : (half : Half) → first_of c half ≡ 2 + L + s.plan.cycles * I + gates_ahead s half
+  pub first_is : (half : Half) → first_of c half ≡ 2 + L + s.plan.cycles * I + gates_ahead s half
   first_is Left = let n = ap (λ m. m * I) (length_half sizes Left) in omega arith
   first_is Right =
       let n = ap (λ m. m * I) (length_half sizes Left) in

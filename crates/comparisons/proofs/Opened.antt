@@ -15,14 +15,14 @@ use Rattle.comparisons.specs.Opening.{rule_of, same_sizes, deep_enough, in_table
 use Rattle.comparisons.specs.Laws.{Comparable, OpensComparable}
 use Rattle.comparisons.proofs.Verdicts.{compares}
 
-same_lists : (xs ys : List ℕ) → same_list xs ys ≡ true → xs ≡ ys
+pub same_lists : (xs ys : List ℕ) → same_list xs ys ≡ true → xs ≡ ys
 same_lists [] [] e = refl
 same_lists [] (y ∷ ys) e = cc
 same_lists (x ∷ xs) [] e = cc
 same_lists (x ∷ xs) (y ∷ ys) e =
     let (here, there) = and_parts (eqb x y) (same_list xs ys) e in ap₂ ◌∷◌ (eqb-true x y here) (same_lists xs ys there)
 
-same_self : (xs : List ℕ) → same_list xs xs ≡ true
+pub same_self : (xs : List ℕ) → same_list xs xs ≡ true
 same_self [] = refl
 same_self (x ∷ xs) = grind (arith, nat_tests, same_self xs)
 
@@ -38,11 +38,11 @@ true_deep AfterOriginal n k d = grind (arith, nat_tests)
 true_deep FromPins n k d = grind (arith, nat_tests)
 true_deep AfterGated n k d = grind (arith, nat_tests)
 
-tabled : (n k : ℕ) (rule : Rule) → in_table (Some rule) n k ≡ true → InTable rule n k
+pub tabled : (n k : ℕ) (rule : Rule) → in_table (Some rule) n k ≡ true → InTable rule n k
 tabled n k rule e =
     let (x, y) = and_parts (deep_enough rule n k) (leb (n + k) 8) e in (deep_true rule n k x, leb-true (n + k) 8 y)
 
-in_the_table : (n k : ℕ) (rule : Rule) → InTable rule n k → in_table (Some rule) n k ≡ true
+pub in_the_table : (n k : ℕ) (rule : Rule) → InTable rule n k → in_table (Some rule) n k ≡ true
 in_the_table n k rule t = let deep = true_deep rule n k t.0 in grind (arith, nat_tests)
 
 few_all : (cs : List Comparison) → AllByRecursion (λ (c : Comparison). (formula c).variables ≤ 135681) cs → few_variables (map formula cs) ≡ true

@@ -85,6 +85,11 @@ module _ (inputs flops outs : ℕ) (fixed : List ℕ) (left right : List Net)
 
   module _ (fixed-fit : length fixed ≤ flops) (inputs-few : inputs ≤ 256) (flops-few : flops ≤ 256) (outs-few : outs ≤ 256) (short : length left ≤ 8)
       (gl : AllByRecursion (λ net. length net.operands ≤ 8192) left) (gr : AllByRecursion (λ net. length net.operands ≤ 8192) right) where
+    pub few_clauses : length (given_clauses inputs flops fixed left right) ≤ 1000000
+    few_clauses =
+        let area : length left * outs ≤ 8 * 256 = mul-le-mul short outs-few in
+        omega (arith, counted_clauses, few_gates left gl, few_gates right gr)
+
     pub few_variables : last_variable inputs flops left right ≤ 135681
     few_variables =
         let area : length left * outs ≤ 8 * 256 = mul-le-mul short outs-few in
