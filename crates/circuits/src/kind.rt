@@ -13,19 +13,23 @@ pub enum NetKind {
 }
 
 impl Counts {
-    // What this net is in a circuit of these counts; past the last net, a gate past the last.
+    // What this net is in a circuit of these counts; past the last net, a gate past the last. Gates are asked for first, and in 64 bits, so
+    // that who asks for no more than that makes one comparison.
     pub fn kind(self, net: u32) -> NetKind
         ensures { IsKind self net result }
     {
-        let Some(input) = net.checked_sub(1) else {
-            return NetKind::False;
-        };
-        let Some(flop) = input.checked_sub(self.inputs) else {
-            return NetKind::Input(input);
-        };
-        match flop.checked_sub(self.flops) {
-            None => NetKind::Flop(flop),
-            Some(gate) => NetKind::Gate(gate),
+        let first_flop = 1 + u64::from(self.inputs);
+        let first_gate = first_flop + u64::from(self.flops);
+        let net = u64::from(net);
+        if let Some(gate) = net.checked_sub(first_gate) {
+            return NetKind::Gate(gate as u32);
+        }
+        if let Some(flop) = net.checked_sub(first_flop) {
+            return NetKind::Flop(flop as u32);
+        }
+        match net.checked_sub(1) {
+            Some(input) => NetKind::Input(input as u32),
+            None => NetKind::False,
         }
     }
 }
