@@ -31,6 +31,15 @@ impl From<Pin> for u32 {
     }
 }
 
+impl Pin {
+    // The same as a method: code above stands on `netlists` alone, and sees an `impl` for `u32` only of crates that it lists.
+    pub fn word(self) -> u32
+        ensures { result ≡ pin_word self }
+    {
+        u32::from(self)
+    }
+}
+
 impl TryFrom<u32> for Pin {
     type Error = NoPin;
 

@@ -1,5 +1,5 @@
-// Netlists: AIGER text, and circuits of every kind under one interface. The names of the crates below are passed on, so that code above
-// takes them from here.
+// Netlists: AIGER text, and circuits of every kind under one interface. Whoever is above needs this crate alone: what stands in the
+// crates below is passed on.
 #![tactic(auto)]
 
 pub mod plain;

@@ -23,7 +23,7 @@ fn operands<C: Circuit>(circuit: &C, i: u32) -> Pair {
 
 // The next literal of flop j, and the word of its pin.
 fn next_and_pin<C: Circuit>(circuit: &C, j: u32) -> Pair {
-    Pair(circuit.next(j), circuit.pin(j).into())
+    Pair(circuit.next(j), circuit.pin(j).word())
 }
 
 // Tells the first of `count` answers of a kind.
