@@ -95,10 +95,15 @@ impl<'a> Circuit for Plain<'a> {
     }
 
     fn pin(&self, j: u32) -> Pin {
-        match self.sections.pins.get(j as usize) {
-            // Each pin of a bounded circuit is 0, 1 or 2.
-            Some(word) => Pin::try_from(*word).unwrap(),
-            None => Pin::Free,
+        let Sections { counts, pins, .. } = self.sections;
+        if j >= counts.flops {
+            return Pin::Free;
+        }
+        // Each pin of a bounded circuit is 0, 1 or 2.
+        match pins[j as usize] {
+            0 => Pin::Zero,
+            1 => Pin::One,
+            _ => Pin::Free,
         }
     }
 
