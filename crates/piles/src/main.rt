@@ -17,7 +17,9 @@ fn run_sample(rt: &HostRuntime, line: &str) -> anyhow::Result<()> {
     let file = parts.next().context("a line without a file")?;
     let text = fs::read(rt, file)?;
     let mut words = vec![in rt.alloc(); 0; MOST_WORDS]?;
-    let counts = read(text.as_slice(), &mut words).context("a netlist that is refused")?;
+    let counts = read(text.as_slice(), &mut words)
+        .ok()
+        .context("a netlist that is refused")?;
     let plain = Plain::new(counts, words.as_slice());
     print!(rt; "{line}: ")?;
     let Some(first) = parts.next() else {
