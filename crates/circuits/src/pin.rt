@@ -32,7 +32,7 @@ impl From<Pin> for u32 {
 }
 
 impl Pin {
-    // The same as a method: code above stands on `netlists` alone, and sees an `impl` for `u32` only of crates that it lists.
+    // The same as a method, for a crate that lists `netlists` alone: it sees an `impl` for `u32` only of crates that it lists.
     pub fn word(self) -> u32
         ensures { result ≡ pin_word self }
     {

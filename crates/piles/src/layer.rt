@@ -21,7 +21,7 @@ fn parse_flop(text: &str) -> anyhow::Result<u32> {
     Ok(text.parse::<u32>()?)
 }
 
-// The words of a text, each parsed. A loop that pushes, since `try_collect` takes a third more time.
+// The words of a text, each parsed. A loop that pushes, since `try_collect` takes a quarter more time or more.
 fn parse_words<T: Drop, F: Fn(&str) -> anyhow::Result<T>>(
     heap: Global,
     text: &str,
